@@ -1,0 +1,74 @@
+-- The five calls: checked, done, logged, answered.
+use Prim.Native.Nat.{ℕ, zero}
+use mathlib.Core.Bool.{Bool, true, false, not}
+use mathlib.Core.List.{List, []}
+use lib.ListN.{length}
+use lib.Dec.{eqb}
+use Rattle.formats.specs.Checks.{if_then_else_, Res, refused, passed}
+use Rattle.lines.specs.Program.{cleaned}
+use Rattle.log.specs.declared.Change.{Change}
+use Rattle.log.specs.Log.{Logged, addChange, records, emptied}
+use Rattle.controller.specs.declared.Controller.{Controller}
+use Rattle.controller.specs.declared.Answer.{Answer}
+use Rattle.controller.specs.Controller.{withLog, Areas, withProgram, withLogArea, fresh}
+use Rattle.controller.specs.Deeds.{Did, did, writing}
+use Rattle.controller.specs.Deeds as Deeds
+use Rattle.controller.specs.Refusals.{Call, powerOn, byte, tick, press, emptying, check}
+
+-- ---- done
+
+-- 01, 'Variables': "Power-on [...] load the saved copy in that cleaned form". 'The log', of emptying: it "copies the records
+-- held, in order, to the start of the destination, leaves its rest, returns their byte count, and the room is used again".
+unfoldable pub does : Call → Controller → Areas → Did
+does powerOn c a = did (fresh (length (a .log))) (withProgram (cleaned (a .saved)) a)
+does (byte x) c a = Deeds.byte x c a
+does tick c a = Deeds.ticked c a
+does (press n) c a = Deeds.pressed n c a
+does emptying c a = writing (records (c .log) (a .log)) (did (withLog (emptied (c .log .size)) c) a)
+
+-- ---- logged
+
+-- the state that a call starts from; power-on "takes none and makes one"
+abbrev pub given : Call → Controller → Controller
+given powerOn c = fresh 0
+given (byte x) c = c
+given tick c = c
+given (press n) c = c
+given emptying c = c
+
+-- 01, 'The log': "A change is a call after which the output word differs. One call makes at most one."
+abbrev pub changes : Call → Controller → Did → Bool
+changes k c x = not (eqb (given k c .run .outputs) (x .state .run .outputs))
+
+-- "tick count", the count after the call; "value is the new word"
+abbrev pub changeOf : Did → Change
+changeOf x = record { cause = x .cause; tick = x .state .ticks; word = x .state .run .outputs }
+
+-- the log and its area after a call that did x
+unfoldable pub logOf : Call → Controller → Did → Logged
+logOf k c x =
+    if changes k c x then addChange (x .state .log) (x .areas .log) (changeOf x)
+    else record { log = x .state .log; area = x .areas .log }
+
+-- ---- answered
+
+-- all that a call leaves: what it returns, and every lent area
+pub record After : Type 0 where
+  pub answer : Answer
+  pub areas : Areas
+
+abbrev pub accepted : Did → Logged → After
+accepted x l = record {
+  answer = record { state = withLog (l .log) (x .state); refusal = 0; lines = x .lines; written = x .written };
+  areas = withLogArea (l .area) (x .areas);
+}
+
+-- 01, 'Calls': "A refusal returns its number, leaves the state and every lent byte untouched; its counts and lengths are 0. A
+-- refused power-on returns the power-on state with a log length of 0".
+abbrev pub settled : Res (Unit {0}) → Call → Controller → Areas → After
+settled (refused n) k c a = record { answer = record { state = given k c; refusal = n; lines = 0; written = 0 }; areas = a }
+settled (passed ok) k c a = accepted (does k c a) (logOf k c (does k c a))
+
+-- A call made with the state c, which power-on does not look at, and the areas a.
+unfoldable pub call : Call → Controller → Areas → After
+call k c a = settled (check k c a) k c a

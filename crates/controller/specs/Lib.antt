@@ -1,0 +1,5 @@
+pub mod Controller
+pub mod Variables
+pub mod Deeds
+pub mod Refusals
+pub mod Calls

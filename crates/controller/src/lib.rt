@@ -1,0 +1,39 @@
+// The controller: one state that passes through every call by value, and the five calls.
+// So far the types and, in specs/, the definitions.
+use log::Log;
+use running::Run;
+use wire::Wire;
+
+// The variables that stand beside the program, the run and the wire.
+pub struct Panel {
+    // 200, the single command, in the eight bytes of a line
+    pub single: [u8; 8],
+    // 209
+    pub parameter: u8,
+    // 210, the last accepted special command
+    pub special: u8,
+    // 212, and D7 of 201
+    pub event: u8,
+    pub unread: bool,
+}
+
+pub struct Controller {
+    pub run: Run,
+    pub paused: bool,
+    // the tick count
+    pub ticks: u32,
+    pub wire: Wire,
+    pub panel: Panel,
+    pub log: Log,
+}
+
+// What a call returns.
+pub struct Answer {
+    pub state: Controller,
+    // the number of the refusal, 0 where the call is accepted
+    pub refusal: u8,
+    // For and Next lines run
+    pub lines: u16,
+    // bytes written to the start of the reply or of the destination
+    pub written: usize,
+}

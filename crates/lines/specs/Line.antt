@@ -1,0 +1,44 @@
+-- Eight bytes as a line, and a line as eight bytes.
+-- 01, 'Variables': "A line is 8 bytes. State: 53 00 X4 X3 X2 X1 and the time, high byte first. For: 46, counter, count high
+-- byte first, four zeros. Next: 4E, counter, six zeros. Times and counts are at most 9999. [...] Eight bytes that are none of
+-- these count as a State with outputs 0 and time 0 wherever they are read."
+use Prim.Native.Nat.{ℕ}
+use mathlib.Core.Bool.{Bool, true, false, _&&_}
+use mathlib.Core.List.{List, [], _∷_, _++_}
+use lib.ListN.{getD, take, drop, replicate}
+use lib.Dec.{leb, eqb}
+use Rattle.formats.specs.Checks.{if_then_else_}
+use Rattle.formats.specs.Digits.{digits, number}
+use Rattle.lines.specs.declared.Line.{Line}
+use Rattle.lines.specs.declared.Line.the-variants.{State, For, Next}
+
+-- the end mark with outputs 0, which eight bytes that are no line count as
+abbrev pub endMark : Line
+endMark = State 0 0
+
+-- a loop counter is 1 to 4
+abbrev pub isCounter : ℕ → Bool
+isCounter c = leb 1 c && leb c 4
+
+-- n elements, the first of them number `from`
+abbrev pub part : ℕ → ℕ → List ℕ → List ℕ
+part from n bs = take n (drop from bs)
+
+-- n bytes from place `from` on, as a number, high byte first
+abbrev pub field : ℕ → ℕ → List ℕ → ℕ
+field from n bs = number 256 (part from n bs)
+
+-- the first eight bytes
+unfoldable pub readLine : List ℕ → Line
+readLine bs =
+    let kind = getD bs 0 0 in
+    let second = getD bs 1 0 in
+    if eqb kind 0x53 && eqb second 0 && leb (field 6 2 bs) 9999 then State (field 2 4 bs) (field 6 2 bs)
+    else if eqb kind 0x46 && isCounter second && leb (field 2 2 bs) 9999 && eqb (field 4 4 bs) 0 then For second (field 2 2 bs)
+    else if eqb kind 0x4E && isCounter second && eqb (field 2 6 bs) 0 then Next second
+    else endMark
+
+unfoldable pub bytesOf : Line → List ℕ
+bytesOf (State outputs time) = 0x53 ∷ 0 ∷ (digits 256 4 outputs ++ digits 256 2 time)
+bytesOf (For counter count) = 0x46 ∷ counter ∷ (digits 256 2 count ++ replicate 4 0)
+bytesOf (Next counter) = 0x4E ∷ counter ∷ replicate 6 0

@@ -1,0 +1,40 @@
+-- The program area: 200 lines of eight bytes, numbered from 000.
+use Prim.Native.Nat.{ℕ, zero, suc, _+_, _*_, _-_}
+use mathlib.Core.Bool.{Bool, true, false}
+use mathlib.Core.List.{List, [], _∷_, _++_}
+use lib.ListN.{take, drop}
+use lib.Dec.{eqb, ltb}
+use Rattle.lines.specs.declared.Line.{Line}
+use Rattle.lines.specs.declared.Line.the-variants.{State, For, Next}
+use Rattle.lines.specs.Line.{readLine, bytesOf}
+
+-- line k
+unfoldable pub lineAt : List ℕ → ℕ → Line
+lineAt p k = readLine (drop (8 * k) p)
+
+-- line k is written; every other byte stays
+unfoldable pub putLine : ℕ → Line → List ℕ → List ℕ
+putLine k l p = take (8 * k) p ++ (bytesOf l ++ drop (8 * k + 8) p)
+
+-- n lines in the cleaned form: each as the line that it is read as
+unfoldable pub cleanedLines : ℕ → List ℕ → List ℕ
+cleanedLines zero p = []
+cleanedLines (suc n) p = bytesOf (readLine p) ++ cleanedLines n (drop 8 p)
+
+-- 01: "Power-on and command 007 load the saved copy in that cleaned form; 008 saves the program area likewise cleaned"
+abbrev pub cleaned : List ℕ → List ℕ
+cleaned p = cleanedLines 200 p
+
+abbrev pub isNext : ℕ → Line → Bool
+isNext c (State outputs time) = false
+isNext c (For counter count) = false
+isNext c (Next counter) = eqb c counter
+
+-- the first Next of counter c among n lines, the first of which is number k; k + n where there is none
+unfoldable pub firstNext : ℕ → ℕ → ℕ → List ℕ → ℕ
+firstNext c zero k p = k
+firstNext c (suc n) k p = elim (isNext c (readLine p)) [ true ↦ k | false ↦ firstNext c n (k + 1) (drop 8 p) ]
+
+-- The pairing of For and Next: the first Next of counter c on a line later than k; 200 where there is none.
+unfoldable pub nextAfter : List ℕ → ℕ → ℕ → ℕ
+nextAfter p c k = firstNext c (199 - k) (k + 1) (drop (8 * (k + 1)) p)

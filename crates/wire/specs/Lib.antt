@@ -1,0 +1,3 @@
+pub mod Collecting
+pub mod Special
+pub mod Command
