@@ -1,7 +1,5 @@
 -- Eight bytes as a line, and a line as eight bytes.
--- 01, 'Variables': "A line is 8 bytes. State: 53 00 X4 X3 X2 X1 and the time, high byte first. For: 46, counter, count high
--- byte first, four zeros. Next: 4E, counter, six zeros. Times and counts are at most 9999. [...] Eight bytes that are none of
--- these count as a State with outputs 0 and time 0 wherever they are read."
+-- 01, 'Variables': "A line is 8 bytes. [...] Times and counts are at most 9999."
 use Prim.Native.Nat.{ℕ}
 use mathlib.Core.Bool.{Bool, true, false, _&&_}
 use mathlib.Core.List.{List, [], _∷_, _++_}
@@ -28,14 +26,25 @@ part from n bs = take n (drop from bs)
 abbrev pub field : ℕ → ℕ → List ℕ → ℕ
 field from n bs = number 256 (part from n bs)
 
--- the first eight bytes
+-- "State: 53 00 X4 X3 X2 X1 and the time, high byte first."
+abbrev pub isState : List ℕ → Bool
+isState bs = eqb (getD bs 0 0) 0x53 && eqb (getD bs 1 0) 0 && leb (field 6 2 bs) 9999
+
+-- "For: 46, counter, count high byte first, four zeros."
+abbrev pub isFor : List ℕ → Bool
+isFor bs = eqb (getD bs 0 0) 0x46 && isCounter (getD bs 1 0) && leb (field 2 2 bs) 9999 && eqb (field 4 4 bs) 0
+
+-- "Next: 4E, counter, six zeros."
+abbrev pub isNext : List ℕ → Bool
+isNext bs = eqb (getD bs 0 0) 0x4E && isCounter (getD bs 1 0) && eqb (field 2 6 bs) 0
+
+-- The line that the first eight bytes say. "Eight bytes that are none of these count as a State with outputs 0 and time 0
+-- wherever they are read."
 unfoldable pub readLine : List ℕ → Line
 readLine bs =
-    let kind = getD bs 0 0 in
-    let second = getD bs 1 0 in
-    if eqb kind 0x53 && eqb second 0 && leb (field 6 2 bs) 9999 then State (field 2 4 bs) (field 6 2 bs)
-    else if eqb kind 0x46 && isCounter second && leb (field 2 2 bs) 9999 && eqb (field 4 4 bs) 0 then For second (field 2 2 bs)
-    else if eqb kind 0x4E && isCounter second && eqb (field 2 6 bs) 0 then Next second
+    if isState bs then State (field 2 4 bs) (field 6 2 bs)
+    else if isFor bs then For (getD bs 1 0) (field 2 2 bs)
+    else if isNext bs then Next (getD bs 1 0)
     else endMark
 
 unfoldable pub bytesOf : Line → List ℕ

@@ -25,15 +25,15 @@ cleanedLines (suc n) p = bytesOf (readLine p) ++ cleanedLines n (drop 8 p)
 abbrev pub cleaned : List ℕ → List ℕ
 cleaned p = cleanedLines 200 p
 
-abbrev pub isNext : ℕ → Line → Bool
-isNext c (State outputs time) = false
-isNext c (For counter count) = false
-isNext c (Next counter) = eqb c counter
+abbrev pub isNextOf : ℕ → Line → Bool
+isNextOf c (State outputs time) = false
+isNextOf c (For counter count) = false
+isNextOf c (Next counter) = eqb c counter
 
 -- the first Next of counter c among n lines, the first of which is number k; k + n where there is none
 unfoldable pub firstNext : ℕ → ℕ → ℕ → List ℕ → ℕ
 firstNext c zero k p = k
-firstNext c (suc n) k p = elim (isNext c (readLine p)) [ true ↦ k | false ↦ firstNext c n (k + 1) (drop 8 p) ]
+firstNext c (suc n) k p = elim (isNextOf c (readLine p)) [ true ↦ k | false ↦ firstNext c n (k + 1) (drop 8 p) ]
 
 -- The pairing of For and Next: the first Next of counter c on a line later than k; 200 where there is none.
 unfoldable pub nextAfter : List ℕ → ℕ → ℕ → ℕ

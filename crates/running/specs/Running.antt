@@ -142,3 +142,8 @@ tick p r =
     if not (r .on) then waits 0 r
     else if ltb 1 (r .wait) then waits 0 (waiting (r .wait - 1) r)
     else follow (onward r .how) 0 (onward r .run) (λ s. runDue p most 0 s)
+
+-- n ticks taken unpaused
+unfoldable pub ticks : List ℕ → ℕ → Run → Run
+ticks p zero r = r
+ticks p (suc n) r = ticks p n (tick p r .run)

@@ -1,0 +1,79 @@
+-- Laws of choices and of chains of checks.
+-- Assumes nothing.
+use Prim.Native.Nat.{ℕ, zero, suc, _<_}
+use mathlib.Core.Path.{_≡_, refl, sym, subst}
+use mathlib.Core.Bool.{Bool, true, false, _&&_, _||_, true≢false, false≢true}
+use mathlib.Core.List.{List, [], _∷_, _++_}
+use mathlib.Core.Logic.{_≢_}
+use native.Mathlib.Omega.{arith}
+use native.Mathlib.Nat.{not-suc-le-zero}
+use lib.Dec.{eqb}
+use borrow.Author.Tests.{eqb-true, eqb-false}
+use Rattle.formats.specs.Checks.{if_then_else_, Res, refused, passed, _>>=_, _>>_, _orElse_, all}
+
+-- ---- choices and tests
+
+-- what holds on both ways of a test holds of the choice
+pub if-case {ℓ} : {A : Type ℓ} (P : A → Type 0) (t : Bool) {x y : A} → (t ≡ true → P x) → (t ≡ false → P y) → P (if t then x else y)
+if-case P true f g = f refl
+if-case P false f g = g refl
+
+pub both-true : (a b : Bool) → (a && b) ≡ true → (a ≡ true) × (b ≡ true)
+both-true true b e = (refl, e)
+both-true false b e = (e, absurd (false≢true e))
+
+pub either-true : {X : Type 0} (a b : Bool) → (a || b) ≡ true → (a ≡ true → X) → (b ≡ true → X) → X
+either-true true b e f g = f refl
+either-true false b e f g = g e
+
+-- a test that antt computes at each number below n
+abbrev pub allBelow : (ℕ → Bool) → ℕ → Bool
+allBelow f zero = true
+allBelow f (suc n) = f n && allBelow f n
+
+-- such a test holds at each of them
+pub below : (f : ℕ → Bool) (n : ℕ) → allBelow f n ≡ true → (k : ℕ) → k < n → f k ≡ true
+below f zero t k lt = absurd (not-suc-le-zero lt)
+below f (suc n) t k lt = go (eqb k n) refl (below f n (halves .1) k)
+  where
+    halves : (f n ≡ true) × (allBelow f n ≡ true)
+    halves = both-true (f n) (allBelow f n) t
+
+    go : (b : Bool) → eqb k n ≡ b → (k < n → f k ≡ true) → f k ≡ true
+    go true e rest = rw (eqb-true k n e) (halves .0)
+    go false e rest = let ne : k ≢ n = eqb-false k n e in rest (omega arith)
+
+-- a test of every element, over an appended one
+pub all-snoc : {A : Type 0} (f : A → Bool) (xs : List A) (x : A) → all f xs ≡ true → f x ≡ true → all f (xs ++ (x ∷ [])) ≡ true
+all-snoc f [] x e g = rw g
+all-snoc f (y ∷ xs) x e g =
+    let p = both-true (f y) (all f xs) e in
+    rw (p .0) (all-snoc f xs x (p .1) g)
+
+-- ---- chains of checks
+
+-- what holds of the value, where the check passes
+abbrev pub Ok : {A : Type 0} → (A → Type 0) → Res A → Type 0
+Ok P (refused e) = Unit
+Ok P (passed a) = P a
+
+pub ok-at : {A : Type 0} (P : A → Type 0) {r : Res A} {a : A} → Ok P r → r ≡ passed a → P a
+ok-at P ok e = rw e at ok
+
+module _ {A B : Type 0} (P : B → Type 0) where
+  pub ok-bind : (Q : A → Type 0) (m : Res A) (f : A → Res B) → Ok Q m → ((a : A) → Q a → Ok P (f a)) → Ok P (m >>= f)
+  unfolding _>>=_
+  ok-bind Q (refused e) f h k = tt
+  ok-bind Q (passed a) f h k = k a h
+
+  -- the value that passed is known by its equation
+  pub ok-passed : (m : Res A) (f : A → Res B) → ((a : A) → m ≡ passed a → Ok P (f a)) → Ok P (m >>= f)
+  unfolding _>>=_
+  ok-passed (refused e) f k = tt
+  ok-passed (passed a) f k = k a refl
+
+module _ {B : Type 0} (P : B → Type 0) where
+  pub ok-guard : (t : Bool) (e : ℕ) (r : Res B) → (t ≡ true → Ok P r) → Ok P ((t orElse e) >> r)
+  unfolding _>>_ _orElse_
+  ok-guard true e r k = k refl
+  ok-guard false e r k = tt

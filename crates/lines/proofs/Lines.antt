@@ -1,0 +1,84 @@
+-- Laws of a line's eight bytes: what is read lies in its ranges, and a line written is the line read.
+-- Assumes nothing.
+use mathlib.Core.Path.{_≡_, refl, sym, ap, _∙_}
+use Prim.Native.Nat.{ℕ, zero, suc, _+_, _*_, _/_, _%_, _^_, _≤_, _<_}
+use mathlib.Core.Bool.{Bool, true, false, _&&_}
+use mathlib.Core.List.{List, [], _∷_, _++_}
+use lib.ListN.{length, take, drop, getD, replicate}
+use lib.Seq.{take-take, take-all, getD-take}
+use lib.Dec.{leb, eqb}
+use native.Mathlib.Omega.{arith}
+use borrow.Author.Tests.{le-leb, leb-true}
+use Rattle.formats.specs.Checks.{if_then_else_}
+use Rattle.formats.specs.Digits.{digits, numberAfter, number}
+use Rattle.formats.proofs.Checks.{if-case, both-true}
+use Rattle.formats.proofs.Digits.{length-digits, number-digits}
+use Rattle.lines.specs.declared.Line.{Line}
+use Rattle.lines.specs.declared.Line.the-variants.{State, For, Next}
+use Rattle.lines.specs.Line.{endMark, isCounter, part, field, isState, isFor, isNext, readLine, bytesOf}
+
+-- ---- the ranges
+
+-- "Times and counts are at most 9999", "loop counter [...] 1-4"
+abbrev pub Ranges : Line → Type 0
+Ranges (State outputs time) = time ≤ 9999
+Ranges (For counter count) = (isCounter counter ≡ true) × (count ≤ 9999)
+Ranges (Next counter) = isCounter counter ≡ true
+
+pub record Ranged (l : Line) : Type 0 where
+  pub range : Ranges l
+
+for-ranged : {c n : ℕ} → isCounter c ≡ true → n ≤ 9999 → Ranged (For c n)
+for-ranged e le = record { range = (e, le) }
+
+end-ranged : Ranged endMark
+end-ranged = record { range = omega arith }
+
+-- Whatever the eight bytes are, the line that they are read as lies in the ranges.
+pub read-ranged : (bs : List ℕ) → Ranged (readLine bs)
+unfolding readLine
+read-ranged bs =
+    let first : ℕ = getD bs 0 0 in
+    let second : ℕ = getD bs 1 0 in
+    if-case Ranged (isState bs)
+    (λ e. record { range = leb-true (field 6 2 bs) 9999 (both-true (eqb first 0x53 && eqb second 0) (leb (field 6 2 bs) 9999) e .1) }) λ _.
+    if-case Ranged (isFor bs)
+    (λ e.
+    let p = both-true (eqb first 0x46 && isCounter second && leb (field 2 2 bs) 9999) (eqb (field 4 4 bs) 0) e in
+    let q = both-true (eqb first 0x46 && isCounter second) (leb (field 2 2 bs) 9999) (p .0) in
+    for-ranged (both-true (eqb first 0x46) (isCounter second) (q .0) .1) (leb-true (field 2 2 bs) 9999 (q .1))) λ _.
+    if-case Ranged (isNext bs)
+    (λ e.
+    let p = both-true (eqb first 0x4E && isCounter second) (eqb (field 2 6 bs) 0) e in
+    record { range = both-true (eqb first 0x4E) (isCounter second) (p .0) .1 }) λ _.
+    end-ranged
+
+-- ---- a line written and read
+
+-- the values that the wire and the eight bytes can hold
+abbrev pub Fits : Line → Type 0
+Fits (State outputs time) = (outputs < 256 ^ 4) × (time ≤ 9999)
+Fits (For counter count) = (isCounter counter ≡ true) × (count ≤ 9999)
+Fits (Next counter) = isCounter counter ≡ true
+
+pub record Fitting (l : Line) : Type 0 where
+  pub fits : Fits l
+
+four : (v : ℕ) → v < 256 ^ 4 → numberAfter 256 0 (digits 256 4 v) ≡ v
+four v lt = number-digits 256 (omega arith) 4 v lt
+
+two : (v : ℕ) → v ≤ 9999 → numberAfter 256 0 (digits 256 2 v) ≡ v
+two v le = number-digits 256 (omega arith) 2 v (omega arith)
+
+-- The eight bytes of a line, whatever follows them, are read as that line.
+pub bytes-back : (l : Line) (r : List ℕ) → Fits l → readLine (bytesOf l ++ r) ≡ l
+unfolding readLine bytesOf digits numberAfter
+bytes-back (State o t) r f = let a = four o (f .0) in let b = two t (f .1) in rw (a, b, le-leb t 9999 (f .1))
+bytes-back (For c n) r f = let b = two n (f .1) in rw (f .0, b, le-leb n 9999 (f .1))
+bytes-back (Next c) r f = rw f
+
+pub length-bytes : (l : Line) → length (bytesOf l) ≡ 8
+unfolding bytesOf digits
+length-bytes (State o t) = refl
+length-bytes (For c n) = refl
+length-bytes (Next c) = refl

@@ -1,0 +1,140 @@
+-- The log holds the history of the changes since it was emptied, whatever they are and however many.
+-- Assumes nothing.
+use mathlib.Core.Path.{_≡_, refl, sym, ap, _∙_}
+use Prim.Native.Nat.{ℕ, zero, suc, _+_, _*_, _-_, _/_, _≤_, _<_, min}
+use mathlib.Core.Bool.{Bool, true, false}
+use mathlib.Core.List.{List, [], _∷_, _++_, append-assoc, append-nil}
+use lib.ListN.{take, length, length-append}
+use lib.Seq.{take-append-le, take-all, take-nil}
+use lib.Dec.{ltb, eqb}
+use native.Mathlib.Omega.{arith}
+use borrow.Author.Tests.{ltb-true, ltb-false, eq-eqb, ne-eqb}
+use Rattle.formats.specs.Checks.{if_then_else_}
+use Rattle.formats.proofs.Checks.{if-case}
+use Rattle.log.specs.declared.Change.{Change}
+use Rattle.log.specs.declared.Log.{Log}
+use Rattle.log.specs.Record.{size, changeRecord, gapRecord}
+use Rattle.log.specs.Log.{R, mostLost, Logged, place, oneMoreLost, addChange, held, records, emptied, recordsOf, lastTick, history}
+use Rattle.log.specs.Invariant.{LogInvariant}
+use Rattle.log.proofs.Places.{length-change, length-gap, place-before, place-at, length-place}
+
+-- ---- one more change at the end of a list
+
+records-snoc : (cs : List Change) (c : Change) → recordsOf (cs ++ (c ∷ [])) ≡ recordsOf cs ++ changeRecord c
+unfolding recordsOf
+records-snoc [] c = append-nil (changeRecord c)
+records-snoc (d ∷ cs) c = rw (records-snoc cs c, append-assoc)
+
+last-snoc : (t : ℕ) (cs : List Change) (c : Change) → lastTick t (cs ++ (c ∷ [])) ≡ c .tick
+last-snoc t [] c = refl
+last-snoc t (d ∷ cs) c = last-snoc (d .tick) cs c
+
+one-more-is : (n : ℕ) → n ≤ mostLost → oneMoreLost n ≡ min (n + 1) mostLost
+one-more-is n le =
+    if-case (λ m. m ≡ min (n + 1) mostLost) (ltb n mostLost)
+    (λ e. omega (arith, ltb-true n mostLost e)) (λ e. omega (arith, ltb-false n mostLost e))
+
+-- ---- what holds of a log after the changes cs since emptying
+
+pub record Holds (cs : List Change) (l : Log) (area : List ℕ) : Type 0 where
+  pub enough : 24 ≤ l .size
+  pub whole : length area ≡ l .size
+  pub keptIs : l .kept ≡ min (length cs) (R l - 1)
+  pub lostIs : l .lost ≡ min (length cs - (R l - 1)) mostLost
+  pub first : take (size * (l .kept)) area ≡ recordsOf (take (R l - 1) cs)
+  pub gap : R l ≤ length cs → take (size * (l .kept) + size) area ≡ recordsOf (take (R l - 1) cs) ++ gapRecord (lastTick 0 cs) (l .lost)
+
+pub holds-nothing : (n : ℕ) (area : List ℕ) → 24 ≤ n → length area ≡ n → Holds [] (emptied n) area
+unfolding emptied recordsOf
+holds-nothing n area le whole =
+    record {
+      enough = le;
+      whole = whole;
+      keptIs = omega arith;
+      lostIs = omega arith;
+      first = sym (ap recordsOf (take-nil (n / size - 1)));
+      gap = λ most. absurd (omega arith);
+    }
+
+pub holds-invariant : (cs : List Change) (l : Log) (area : List ℕ) → Holds cs l area → LogInvariant l
+holds-invariant cs l area h = record { room = λ le. omega (arith, h .keptIs) }
+
+module _ (cs : List Change) (l : Log) (area : List ℕ) (c : Change) (h : Holds cs l area) where
+  abbrev cs′ : List Change
+  cs′ = cs ++ (c ∷ [])
+
+  more : length cs′ ≡ length cs + 1
+  more = length-append cs (c ∷ [])
+
+  fits : size * (l .kept) + size ≤ length area
+  fits = omega (arith, h .keptIs, h .whole, h .enough)
+
+  abbrev HoldsNow : Logged → Type 0
+  HoldsNow x = Holds cs′ (x .log) (x .area)
+
+  -- there is room: the change is kept
+  keep : l .kept + 1 < R l → Holds cs′ (record { size = l .size; kept = l .kept + 1; lost = l .lost }) (place (l .kept) (changeRecord c) area)
+  keep lt =
+      let few : length cs + 1 ≤ R l - 1 = omega (arith, h .keptIs) in
+      let next : size * (l .kept + 1) ≡ size * (l .kept) + size = omega arith in
+      record {
+        enough = h .enough;
+        whole = length-place (l .kept) (changeRecord c) area (length-change c) fits ∙ h .whole;
+        keptIs = omega (arith, more, h .keptIs);
+        lostIs = omega (arith, more, h .lostIs);
+        first =
+            rw (
+              next,
+              place-at (l .kept) (changeRecord c) area (length-change c) fits,
+              h .first,
+              take-all (R l - 1) cs (omega arith),
+              take-all (R l - 1) cs′ (omega (arith, more)),
+              records-snoc,
+            );
+        gap = λ le. absurd (omega (arith, more));
+      }
+
+  -- there is none: it is lost, and the gap tells
+  lose : R l ≤ l .kept + 1 → Holds cs′ (record { size = l .size; kept = l .kept; lost = oneMoreLost (l .lost) }) (place (l .kept) (gapRecord (c .tick) (oneMoreLost (l .lost))) area)
+  lose le =
+      let many : R l - 1 ≤ length cs = omega (arith, h .keptIs) in
+      let whole = length-gap (c .tick) (oneMoreLost (l .lost)) in
+      record {
+        enough = h .enough;
+        whole = length-place (l .kept) _ area whole fits ∙ h .whole;
+        keptIs = omega (arith, more, h .keptIs);
+        lostIs = omega (arith, more, h .lostIs, one-more-is (l .lost) (omega (arith, h .lostIs)));
+        first = rw (place-before (l .kept) _ area whole fits, take-append-le, h .first);
+        gap = λ _. rw (place-at (l .kept) _ area whole fits, h .first, take-append-le, last-snoc);
+      }
+
+  -- One change more: the log then holds the longer list.
+  pub holds-more : HoldsNow (addChange l area c)
+  unfolding addChange
+  holds-more =
+      if-case HoldsNow (ltb (l .kept + 1) (R l))
+      (λ e. keep (ltb-true (l .kept + 1) (R l) e)) (λ e. lose (ltb-false (l .kept + 1) (R l) e))
+
+-- What a log holds is told by its records: the paper's sentence.
+pub records-tell : (cs : List Change) (l : Log) (area : List ℕ) → Holds cs l area → records l area ≡ history (R l) cs
+unfolding records history
+records-tell cs l area h = go (ltb (length cs) (R l)) refl
+  where
+    go : (t : Bool) → ltb (length cs) (R l) ≡ t → records l area ≡ history (R l) cs
+    go true e = rw (eq-eqb (l .lost) 0 (omega (arith, h .lostIs, ltb-true (length cs) (R l) e)), e, records, history)
+        (h .first ∙ ap recordsOf (take-all (R l - 1) cs (omega (arith, ltb-true (length cs) (R l) e))))
+    go false e = rw (ne-eqb (l .lost) 0 (λ z. omega (arith, h .lostIs, h .enough, ltb-false (length cs) (R l) e)), e, records, history)
+        (let next : size * (l .kept + 1) ≡ size * (l .kept) + size = omega arith in
+        rw (next, ← h .lostIs) (h .gap (ltb-false (length cs) (R l) e)))
+
+-- ---- the invariant
+
+pub emptied-kept : (n : ℕ) → LogInvariant (emptied n)
+unfolding emptied
+emptied-kept n = record { room = λ le. omega arith }
+
+pub change-kept : (l : Log) (area : List ℕ) (c : Change) → LogInvariant l → LogInvariant (addChange l area c .log)
+unfolding addChange
+change-kept l area c i =
+    if-case (λ (x : Logged). LogInvariant (x .log)) (ltb (l .kept + 1) (R l))
+    (λ e. record { room = λ le. omega (arith, ltb-true (l .kept + 1) (R l) e) }) (λ _. record { room = i .room })

@@ -1,0 +1,136 @@
+-- A start or a tick runs at most 400 For and Next lines, and it raises an event exactly if it ends the program.
+-- Assumes nothing.
+use Prim.Native.Nat.{ℕ, zero, suc, _+_, _-_, _≤_, _<_}
+use native.Mathlib.Omega.{arith}
+use mathlib.Core.Path.{_≡_, refl, sym, _∙_}
+use mathlib.Core.Logic.{_≢_}
+use mathlib.Core.Bool.{Bool, true, false, not, true≢false}
+use mathlib.Core.List.{List}
+use lib.Dec.{eqb, ltb}
+use borrow.Author.Tests.{not-false}
+use Rattle.formats.specs.Checks.{if_then_else_}
+use Rattle.formats.proofs.Checks.{if-case}
+use Rattle.lines.specs.declared.Line.{Line}
+use Rattle.lines.specs.declared.Line.the-variants.{State, For, Next}
+use Rattle.lines.specs.Program.{lineAt, nextAfter}
+use Rattle.running.specs.declared.Run.{Run}
+use Rattle.running.specs.declared.How.{How}
+use Rattle.running.specs.declared.How.the-variants.{Holds, Ends, GoesOn}
+use Rattle.running.specs.declared.Step.{Step}
+use Rattle.running.specs.declared.Ran.{Ran}
+use Rattle.running.specs.Running.{allFree, counter, busy, withOutputs, waiting, stopped, holds, ends, onward, runLine, isState, counted, stops, waits, follow, step, runDue, most, start, tick, ticks}
+
+-- ---- at most 400 lines
+
+counted-one : (l : Line) → counted l ≤ 1
+counted-one (State o t) = omega arith
+counted-one (For c n) = omega arith
+counted-one (Next c) = omega arith
+
+follow-lines : (b : ℕ) (h : How) (n : ℕ) (r : Run) (go : Run → Ran) → n ≤ b → ((s : Run) → go s .lines ≤ b) → follow h n r go .lines ≤ b
+follow-lines b Holds n r go le k = le
+follow-lines b (Ends e) n r go le k = le
+follow-lines b GoesOn n r go le k = k r
+
+due-lines : (p : List ℕ) (left n : ℕ) (r : Run) → runDue p left n r .lines ≤ n + left
+unfolding runDue
+due-lines p zero n r =
+    if-case (λ (x : Ran). x .lines ≤ n + 0) (isState (lineAt p (r .line)))
+    (λ _. follow-lines (n + 0) (step p r .how) n (step p r .run) _ (omega arith) (λ s. omega arith)) (λ _. omega arith)
+due-lines p (suc left) n r =
+    let one : counted (lineAt p (r .line)) ≤ 1 = counted-one (lineAt p (r .line)) in
+    follow-lines (n + suc left) (step p r .how) _ (step p r .run) _ (omega arith) (λ s. omega (arith, due-lines p left (n + counted (lineAt p (r .line))) s))
+
+pub start-lines : (p : List ℕ) (k o : ℕ) → start p k o .lines ≤ 400
+unfolding start
+start-lines p k o = omega (arith, due-lines p most 0 (record { on = true; line = k; outputs = o; wait = 0; counters = allFree }))
+
+pub tick-lines : (p : List ℕ) (r : Run) → tick p r .lines ≤ 400
+unfolding tick
+tick-lines p r =
+    if-case (λ (x : Ran). x .lines ≤ 400) (not (r .on)) (λ _. omega arith) λ _.
+    if-case (λ (x : Ran). x .lines ≤ 400) (ltb 1 (r .wait)) (λ _. omega arith) λ _.
+    follow-lines 400 (onward r .how) 0 (onward r .run) _ (omega arith) (λ s. omega (arith, due-lines p most 0 s))
+
+-- ---- an event exactly at the end
+
+-- it goes on with no event, or it has ended with one
+pub data Told (x : Ran) : Type 0 where
+  goesOn : x .run .on ≡ true → x .event ≡ 0 → Told x
+  hasEnded : x .run .on ≡ false → x .event ≢ 0 → Told x
+
+-- a line leaves the program running, and ends it only with an event
+record Tells (s : Step) : Type 0 where
+  running : s .run .on ≡ true
+  event : (e : ℕ) → s .how ≡ Ends e → e ≢ 0
+
+ends-tell : (e : ℕ) (r : Run) → r .on ≡ true → e ≢ 0 → Tells (ends e r)
+ends-tell e r on ne = record { running = on; event = λ f h z. ne (same h ∙ z) }
+  where
+    same : {f : ℕ} → Ends e ≡ Ends f → e ≡ f
+    same h = cc
+
+not-ends : {h : How} {e : ℕ} → h ≡ Ends e → h ≡ Holds → ⊥
+not-ends p q = let z : _≡_ {A = ℕ} 0 1 = cc in omega arith
+
+not-ends′ : {h : How} {e : ℕ} → h ≡ Ends e → h ≡ GoesOn → ⊥
+not-ends′ p q = let z : _≡_ {A = ℕ} 0 1 = cc in omega arith
+
+holds-tell : (r : Run) → r .on ≡ true → Tells (holds r)
+holds-tell r on = record { running = on; event = λ e h z. not-ends h refl }
+
+goes-tell : (s : Step) → s .run .on ≡ true → s .how ≡ GoesOn → Tells s
+goes-tell s on g = record { running = on; event = λ e h z. not-ends′ h g }
+
+onward-tell : (r : Run) → r .on ≡ true → Tells (onward r)
+unfolding onward
+onward-tell r on = if-case Tells (ltb (r .line) 199) (λ _. goes-tell _ on refl) (λ _. ends-tell 9 r on (omega arith))
+
+line-tell : (p : List ℕ) (l : Line) (r : Run) → r .on ≡ true → Tells (runLine p l r)
+unfolding runLine
+line-tell p (State o t) r on = if-case Tells (eqb t 0) (λ _. ends-tell 11 _ on (omega arith)) (λ _. holds-tell _ on)
+line-tell p (For c n) r on =
+    if-case Tells (busy r c) (λ _. ends-tell 6 r on (omega arith)) λ _.
+    if-case Tells (eqb (nextAfter p c (r .line)) 200) (λ _. ends-tell 7 r on (omega arith)) (λ _. onward-tell _ on)
+line-tell p (Next c) r on =
+    if-case Tells (not (busy r c)) (λ _. ends-tell 8 r on (omega arith)) λ _.
+    if-case Tells (ltb 0 (counter r c .count - 1)) (λ _. goes-tell _ on refl) (λ _. onward-tell _ on)
+
+step-tell : (p : List ℕ) (r : Run) → r .on ≡ true → Tells (step p r)
+unfolding step
+step-tell p r on = line-tell p (lineAt p (r .line)) r on
+
+stops-told : (e n : ℕ) (r : Run) → e ≢ 0 → Told (stops e n r)
+unfolding stopped
+stops-told e n r ne = hasEnded refl ne
+
+follow-told : (h : How) (n : ℕ) (r : Run) (go : Run → Ran) → r .on ≡ true → ((e : ℕ) → h ≡ Ends e → e ≢ 0)
+    → ((s : Run) → s .on ≡ true → Told (go s)) → Told (follow h n r go)
+follow-told Holds n r go on ev k = goesOn on refl
+follow-told (Ends e) n r go on ev k = stops-told e n r (ev e refl)
+follow-told GoesOn n r go on ev k = k r on
+
+due-told : (p : List ℕ) (left n : ℕ) (r : Run) → r .on ≡ true → Told (runDue p left n r)
+unfolding runDue
+due-told p zero n r on =
+    let t = step-tell p r on in
+    if-case Told (isState (lineAt p (r .line)))
+    (λ _. follow-told (step p r .how) n (step p r .run) _ (t .running) (t .event) (λ s _. stops-told 13 n s (omega arith)))
+    (λ _. stops-told 13 n r (omega arith))
+due-told p (suc left) n r on =
+    let t = step-tell p r on in
+    follow-told (step p r .how) _ (step p r .run) _ (t .running) (t .event) (λ s k. due-told p left _ s k)
+
+-- A start that does not end in its own call raises no event; one that ends raises one.
+pub start-told : (p : List ℕ) (k o : ℕ) → Told (start p k o)
+unfolding start
+start-told p k o = due-told p most 0 _ refl
+
+-- The same of a tick of a running program.
+pub tick-told : (p : List ℕ) (r : Run) → r .on ≡ true → Told (tick p r)
+unfolding tick
+tick-told p r on =
+    if-case Told (not (r .on)) (λ e. absurd (true≢false (sym (rw on at e)))) λ _.
+    if-case Told (ltb 1 (r .wait)) (λ _. goesOn on refl) λ _.
+    let t = onward-tell r on in
+    follow-told (onward r .how) 0 (onward r .run) _ (t .running) (t .event) (λ s k. due-told p most 0 s k)

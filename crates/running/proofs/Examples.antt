@@ -1,0 +1,91 @@
+-- Programs small enough to follow by hand, run by the rules alone: each rule of 01, 'Running', shows in one of them.
+-- Assumes nothing.
+use mathlib.Core.Path.{_≡_, refl}
+use Prim.Native.Nat.{ℕ, zero, suc}
+use mathlib.Core.Bool.{Bool, true, false, _&&_}
+use mathlib.Core.List.{List, [], _∷_, _++_}
+use lib.ListN.{replicate}
+use lib.Dec.{eqb}
+use Rattle.formats.specs.Checks.{if_then_else_}
+use Rattle.formats.specs.Digits.{digits, numberAfter}
+use Rattle.lines.specs.declared.Line.{Line}
+use Rattle.lines.specs.declared.Line.the-variants.{State, For, Next}
+use Rattle.lines.specs.Line.{readLine, bytesOf}
+use Rattle.lines.specs.Program.{lineAt, firstNext, nextAfter}
+use Rattle.running.specs.declared.Ran.{Ran}
+use Rattle.running.specs.Running.{counter, stopped, onward, runLine, step, runDue, start, tick}
+
+-- a row: 1 if the program runs, the outputs, the line, counter 1, the event, the For and Next lines run
+abbrev row : Ran → List ℕ
+row x = (if x .run .on then 1 else 0) ∷ x .run .outputs ∷ x .run .line ∷ counter (x .run) 1 .count ∷ x .event ∷ x .lines ∷ []
+
+record Example : Type 0 where
+  program : List ℕ
+  from : ℕ
+  -- after the start, and after each tick
+  rows : List (List ℕ)
+
+abbrev same : List ℕ → List ℕ → Bool
+same [] [] = true
+same [] (y ∷ ys) = false
+same (x ∷ xs) [] = false
+same (x ∷ xs) (y ∷ ys) = eqb x y && same xs ys
+
+agrees : List ℕ → Ran → List (List ℕ) → Bool
+agrees p x [] = true
+agrees p x (r ∷ rs) = same (row x) r && agrees p (tick p (x .run)) rs
+
+failing : ℕ → List Example → List ℕ
+failing n [] = []
+failing n (e ∷ es) =
+    if agrees (e .program) (start (e .program) (e .from) 0) (e .rows) then failing (suc n) es else n ∷ failing (suc n) es
+
+-- lines from 000 on; what follows them counts as end marks
+abbrev these : List Line → List ℕ
+these [] = []
+these (l ∷ ls) = bytesOf l ++ these ls
+
+infix 70 _startedAt_gives_
+abbrev _startedAt_gives_ : List ℕ → ℕ → List (List ℕ) → Example
+p startedAt k gives rs = record { program = p; from = k; rows = rs }
+
+abbrev examples : List Example
+examples =
+    -- 1: a loop of three; the tick in which a State line is set does not count towards its time
+    these (For 1 3 ∷ State 1 2 ∷ Next 1 ∷ State 0 0 ∷ [])
+    startedAt 0
+    gives (
+      (1 ∷ 1 ∷ 1 ∷ 3 ∷ 0 ∷ 1 ∷ [])
+      ∷ (1 ∷ 1 ∷ 1 ∷ 3 ∷ 0 ∷ 0 ∷ [])
+      ∷ (1 ∷ 1 ∷ 1 ∷ 2 ∷ 0 ∷ 1 ∷ [])
+      ∷ (1 ∷ 1 ∷ 1 ∷ 2 ∷ 0 ∷ 0 ∷ [])
+      ∷ (1 ∷ 1 ∷ 1 ∷ 1 ∷ 0 ∷ 1 ∷ [])
+      ∷ (1 ∷ 1 ∷ 1 ∷ 1 ∷ 0 ∷ 0 ∷ [])
+      ∷ (0 ∷ 0 ∷ 3 ∷ 0 ∷ 11 ∷ 1 ∷ [])
+      ∷ (0 ∷ 0 ∷ 3 ∷ 0 ∷ 0 ∷ 0 ∷ [])
+      ∷ []
+    )
+    -- 2: a start inside a loop: 008, though a For stands above
+    ∷ these (For 1 3 ∷ State 5 1 ∷ Next 1 ∷ State 0 0 ∷ [])
+    startedAt 1
+    gives ((1 ∷ 5 ∷ 1 ∷ 0 ∷ 0 ∷ 0 ∷ []) ∷ (0 ∷ 5 ∷ 2 ∷ 0 ∷ 8 ∷ 1 ∷ []) ∷ [])
+    -- 3: a busy counter: 006
+    ∷ these (For 1 2 ∷ For 1 2 ∷ Next 1 ∷ []) startedAt 0 gives ((0 ∷ 0 ∷ 1 ∷ 0 ∷ 6 ∷ 2 ∷ []) ∷ [])
+    -- 4: no later Next of that counter: 007
+    ∷ these (Next 1 ∷ For 1 2 ∷ Next 2 ∷ []) startedAt 1 gives ((0 ∷ 0 ∷ 1 ∷ 0 ∷ 7 ∷ 1 ∷ []) ∷ [])
+    -- 5 and 6: 400 lines in one call, and a 401st due
+    ∷ these (For 1 399 ∷ Next 1 ∷ State 7 0 ∷ []) startedAt 0 gives ((0 ∷ 7 ∷ 2 ∷ 0 ∷ 11 ∷ 400 ∷ []) ∷ [])
+    ∷ these (For 1 400 ∷ Next 1 ∷ State 7 0 ∷ []) startedAt 0 gives ((0 ∷ 0 ∷ 1 ∷ 0 ∷ 13 ∷ 400 ∷ []) ∷ [])
+    -- 7: on past line 199: 009, and the line stays
+    ∷ (replicate 1592 0 ++ bytesOf (State 5 1)) startedAt 199 gives ((1 ∷ 5 ∷ 199 ∷ 0 ∷ 0 ∷ 0 ∷ []) ∷ (0 ∷ 5 ∷ 199 ∷ 0 ∷ 9 ∷ 0 ∷ []) ∷ [])
+    -- 8: count 0000 runs its body once
+    ∷ these (For 1 0 ∷ State 3 1 ∷ Next 1 ∷ State 0 0 ∷ [])
+    startedAt 0
+    gives ((1 ∷ 3 ∷ 1 ∷ 1 ∷ 0 ∷ 1 ∷ []) ∷ (0 ∷ 0 ∷ 3 ∷ 0 ∷ 11 ∷ 1 ∷ []) ∷ [])
+    -- 9: a counter that is free again can be used again
+    ∷ these (For 1 1 ∷ Next 1 ∷ For 1 1 ∷ Next 1 ∷ State 2 9 ∷ []) startedAt 0 gives ((1 ∷ 2 ∷ 4 ∷ 0 ∷ 0 ∷ 4 ∷ []) ∷ [])
+    ∷ []
+
+running-examples : failing 1 examples ≡ []
+unfolding failing agrees digits numberAfter readLine bytesOf lineAt firstNext nextAfter stopped onward runLine step runDue start tick
+running-examples = refl

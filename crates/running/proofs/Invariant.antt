@@ -1,0 +1,163 @@
+-- A start gives the run's invariant, and a tick keeps it.
+-- Assumes nothing.
+use Prim.Native.Nat.{ℕ, zero, suc, _+_, _-_, _≤_, _<_}
+use native.Mathlib.Omega.{arith}
+use mathlib.Core.Path.{_≡_, refl, sym, _∙_}
+use mathlib.Core.Logic.{_≢_}
+use mathlib.Core.Bool.{Bool, true, false, not, true≢false}
+use mathlib.Core.List.{List, [], _∷_}
+use lib.ListN.{getD, set}
+use lib.Dec.{eqb, ltb}
+use borrow.Author.Tests.{eqb-false, ltb-true, not-true, not-false}
+use Rattle.formats.specs.Checks.{if_then_else_}
+use Rattle.formats.proofs.Checks.{if-case}
+use Rattle.lines.specs.declared.Line.{Line}
+use Rattle.lines.specs.declared.Line.the-variants.{State, For, Next}
+use Rattle.lines.specs.Program.{lineAt, nextAfter}
+use Rattle.lines.proofs.Lines.{Ranged}
+use Rattle.lines.proofs.Places.{next-is-later, line-ranged}
+use Rattle.running.specs.declared.Counter.{Counter}
+use Rattle.running.specs.declared.Run.{Run}
+use Rattle.running.specs.declared.How.{How}
+use Rattle.running.specs.declared.How.the-variants.{Holds, Ends, GoesOn}
+use Rattle.running.specs.declared.Step.{Step}
+use Rattle.running.specs.declared.Ran.{Ran}
+use Rattle.running.specs.Running.{free, allFree, counter, busy, atLine, withOutputs, waiting, withCounter, stopped, holds, ends, goesTo, onward, atLeastOne, runLine, isState, counted, stops, waits, follow, step, runDue, most, start, tick}
+use Rattle.running.specs.Invariant.{RunInvariant}
+
+-- ---- counters
+
+-- all counters free
+each-free : (P : Counter → Type 0) → P free → (i : ℕ) → P (getD allFree i free)
+each-free P h zero = h
+each-free P h (suc zero) = h
+each-free P h (suc (suc zero)) = h
+each-free P h (suc (suc (suc zero))) = h
+each-free P h (suc (suc (suc (suc i)))) = h
+
+-- one counter set
+each-set : (P : Counter → Type 0) (l : List Counter) (c : ℕ) (v : Counter) → P v → ((i : ℕ) → P (getD l i free)) → (i : ℕ) → P (getD (set l c v) i free)
+each-set P [] c v h g i = g i
+each-set P (x ∷ l) zero v h g zero = h
+each-set P (x ∷ l) zero v h g (suc i) = g (suc i)
+each-set P (x ∷ l) (suc c) v h g zero = g zero
+each-set P (x ∷ l) (suc c) v h g (suc i) = each-set P l c v h (λ j. g (suc j)) i
+
+abbrev LineOk : Counter → Type 0
+LineOk c = c .line < 199
+
+abbrev CountOk : Counter → Type 0
+CountOk c = c .count ≤ 9999
+
+-- ---- a run that goes on
+
+record Going (r : Run) : Type 0 where
+  on : r .on ≡ true
+  inProgram : r .line < 200
+  forLine : (i : ℕ) → LineOk (getD (r .counters) i free)
+  count : (i : ℕ) → CountOk (getD (r .counters) i free)
+  time : r .wait ≤ 9999
+
+record GoingStep (s : Step) : Type 0 where
+  going : Going (s .run)
+
+still : {r : Run} → Going r → RunInvariant r
+still g = record { lineInProgram = g .inProgram; forLine = g .forLine; count = g .count; time = g .time; idle = λ e. absurd (true≢false (sym (g .on) ∙ e)) }
+
+-- a stop frees the loops and keeps the line
+pub stopped-kept : (r : Run) → r .line < 200 → RunInvariant (stopped r)
+unfolding stopped
+stopped-kept r lt =
+    record {
+      lineInProgram = lt;
+      forLine = each-free LineOk (omega arith);
+      count = each-free CountOk (omega arith);
+      time = omega arith;
+      idle = λ e. refl;
+    }
+
+-- ---- one line
+
+ends-going : (e : ℕ) (r : Run) → Going r → GoingStep (ends e r)
+ends-going e r g = record { going = g }
+
+goes-going : (k : ℕ) (r : Run) → k < 200 → Going r → GoingStep (goesTo k r)
+goes-going k r lt g = record { going = record { on = g .on; inProgram = lt; forLine = g .forLine; count = g .count; time = g .time } }
+
+onward-going : (r : Run) → Going r → GoingStep (onward r)
+unfolding onward
+onward-going r g =
+    if-case GoingStep (ltb (r .line) 199) (λ e. goes-going (r .line + 1) r (omega (arith, ltb-true (r .line) 199 e)) g) (λ _. ends-going 9 r g)
+
+state-going : (o t : ℕ) (r : Run) → t ≤ 9999 → Going r → Going (waiting t (withOutputs o r))
+state-going o t r le g = record { on = g .on; inProgram = g .inProgram; forLine = g .forLine; count = g .count; time = le }
+
+outputs-going : (o : ℕ) (r : Run) → Going r → Going (withOutputs o r)
+outputs-going o r g = record { on = g .on; inProgram = g .inProgram; forLine = g .forLine; count = g .count; time = g .time }
+
+counter-going : (c : ℕ) (v : Counter) (r : Run) → v .line < 199 → v .count ≤ 9999 → Going r → Going (withCounter c v r)
+counter-going c v r l n g =
+    record {
+      on = g .on;
+      inProgram = g .inProgram;
+      forLine = each-set LineOk (r .counters) (c - 1) v l (g .forLine);
+      count = each-set CountOk (r .counters) (c - 1) v n (g .count);
+      time = g .time;
+    }
+
+at-least-one : (n : ℕ) → n ≤ 9999 → atLeastOne n ≤ 9999
+at-least-one n le = if-case (λ m. m ≤ 9999) (eqb n 0) (λ _. omega arith) (λ _. le)
+
+line-going : (p : List ℕ) (l : Line) (r : Run) → Ranged l → Going r → GoingStep (runLine p l r)
+unfolding runLine
+line-going p (State o t) r q g =
+    if-case GoingStep (eqb t 0) (λ _. ends-going 11 _ (outputs-going o r g)) (λ _. record { going = state-going o t r (q .range) g })
+line-going p (For c n) r q g =
+    if-case GoingStep (busy r c) (λ _. ends-going 6 r g) λ _.
+    if-case GoingStep (eqb (nextAfter p c (r .line)) 200) (λ _. ends-going 7 r g) λ e.
+    let found : nextAfter p c (r .line) ≢ 200 = eqb-false _ _ e in
+    let lt = next-is-later p c (r .line) (g .inProgram) found in
+    onward-going _ (counter-going c _ r lt (at-least-one n (q .range .1)) g)
+line-going p (Next c) r q g =
+    if-case GoingStep (not (busy r c)) (λ _. ends-going 8 r g) λ _.
+    let l : counter r c .line < 199 = g .forLine (c - 1) in
+    let n : counter r c .count ≤ 9999 = g .count (c - 1) in
+    if-case GoingStep (ltb 0 (counter r c .count - 1))
+    (λ _. goes-going _ _ (omega arith) (counter-going c _ r l (omega arith) g))
+    (λ _. onward-going _ (counter-going c free r (omega arith) (omega arith) g))
+
+step-going : (p : List ℕ) (r : Run) → Going r → GoingStep (step p r)
+unfolding step
+step-going p r g = line-going p (lineAt p (r .line)) r (line-ranged p (r .line)) g
+
+-- ---- the lines of one call
+
+follow-kept : (h : How) (n : ℕ) (r : Run) (go : Run → Ran) → Going r → ((s : Run) → Going s → RunInvariant (go s .run)) → RunInvariant (follow h n r go .run)
+follow-kept Holds n r go g k = still g
+follow-kept (Ends e) n r go g k = stopped-kept r (g .inProgram)
+follow-kept GoesOn n r go g k = k r g
+
+due-kept : (p : List ℕ) (left n : ℕ) (r : Run) → Going r → RunInvariant (runDue p left n r .run)
+unfolding runDue
+due-kept p zero n r g =
+    if-case (λ (x : Ran). RunInvariant (x .run)) (isState (lineAt p (r .line)))
+    (λ _. follow-kept (step p r .how) n (step p r .run) _ (step-going p r g .going) (λ s k. stopped-kept s (k .inProgram)))
+    (λ _. stopped-kept r (g .inProgram))
+due-kept p (suc left) n r g =
+    follow-kept (step p r .how) _ (step p r .run) _ (step-going p r g .going) (λ s k. due-kept p left _ s k)
+
+-- A start at a line of the program gives the invariant.
+pub start-kept : (p : List ℕ) (k o : ℕ) → k < 200 → RunInvariant (start p k o .run)
+unfolding start
+start-kept p k o lt =
+    due-kept p most 0 _ (record { on = refl; inProgram = lt; forLine = each-free LineOk (omega arith); count = each-free CountOk (omega arith); time = omega arith })
+
+-- A tick keeps it.
+pub tick-kept : (p : List ℕ) (r : Run) → RunInvariant r → RunInvariant (tick p r .run)
+unfolding tick
+tick-kept p r i =
+    if-case (λ (x : Ran). RunInvariant (x .run)) (not (r .on)) (λ _. i) λ e.
+    let g : Going r = record { on = not-false (r .on) e; inProgram = i .lineInProgram; forLine = i .forLine; count = i .count; time = i .time } in
+    if-case (λ (x : Ran). RunInvariant (x .run)) (ltb 1 (r .wait))
+    (λ _. still (record { on = g .on; inProgram = g .inProgram; forLine = g .forLine; count = g .count; time = omega (arith, g .time) }))
+    (λ _. follow-kept (onward r .how) 0 (onward r .run) _ (onward-going r g .going) (λ s k. due-kept p most 0 s k))

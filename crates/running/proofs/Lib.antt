@@ -1,0 +1,4 @@
+pub mod Invariant
+pub mod Ending
+pub mod Waiting
+pub mod Examples
