@@ -25,21 +25,17 @@ use Rattle.controller.specs.declared.Controller.{Controller}
 use Rattle.controller.specs.Controller.{withRun, withPaused, withTicks, withWire, withSingle, withParameter, withSpecial, withEvent, mode, Areas, withProgram, withSaved, withOut}
 use Rattle.controller.specs.Variables.{lineOf, place, withByte, value}
 
--- What was done: the state and the areas after it, the For and Next lines run, the cause that a change is logged with, and the
--- bytes written to the start of the reply or the destination.
+-- What was done: the state and the areas after it, the For and Next lines run, and the bytes written to the start of the reply or
+-- the destination.
 pub record Did : Type 0 where
   pub state : Controller
   pub areas : Areas
   pub lines : ℕ
-  pub cause : ℕ
   pub written : ℕ
 
--- 01, 'The log': "cause is the line, 254 for command 006, 255 for a write to 203-206."
-abbrev pub by : ℕ → Controller → Areas → Did
-by cause c a = record { state = c; areas = a; lines = 0; cause = cause; written = 0 }
-
+-- nothing run and nothing written
 abbrev pub did : Controller → Areas → Did
-did c a = by (c .run .line) c a
+did c a = record { state = c; areas = a; lines = 0; written = 0 }
 
 -- 01, 'Calls': "A reply is written from the start of its area and the bytes after it stay."
 abbrev pub over : List ℕ → List ℕ → List ℕ
@@ -47,7 +43,7 @@ over bytes area = bytes ++ drop (length bytes) area
 
 unfoldable pub writing : List ℕ → Did → Did
 writing bytes x =
-    record { state = x .state; areas = withOut (over bytes (x .areas .out)) (x .areas); lines = x .lines; cause = x .cause; written = length bytes }
+    record { state = x .state; areas = withOut (over bytes (x .areas .out)) (x .areas); lines = x .lines; written = length bytes }
 
 -- ---- start, stop, event
 
@@ -58,7 +54,7 @@ raise event c = if eqb event 0 then c else withEvent event true c
 -- the run moved on
 unfoldable pub moved : Ran → Controller → Areas → Did
 moved r c a =
-    record { state = raise (r .event) (withRun (r .run) c); areas = a; lines = r .lines; cause = r .run .line; written = 0 }
+    record { state = raise (r .event) (withRun (r .run) c); areas = a; lines = r .lines; written = 0 }
 
 unfoldable pub startAt : ℕ → Controller → Areas → Did
 startAt k c a = moved (start (a .program) k (c .run .outputs)) c a
@@ -81,7 +77,7 @@ special Pause c a = did (withPaused true c) a
 special Start c a = startAt 0 c a
 special Continue c a = did (withPaused false c) a
 special StartAt c a = startAt (c .panel .parameter) c a
-special Execute c a = by 254 (execute (lineOf c (a .program) (c .panel .parameter)) c) a
+special Execute c a = did (execute (lineOf c (a .program) (c .panel .parameter)) c) a
 special Load c a = did c (withProgram (cleaned (a .saved)) a)
 special Save c a = did c (withSaved (cleaned (a .program)) a)
 
@@ -91,7 +87,7 @@ unfoldable pub deed : Deed → ℕ → Controller → Areas → Did
 -- "last event; reading it clears code and D7"
 deed Read k c a = did (if eqb k 212 then withEvent 0 false c else c) a
 deed (PutLine l) k c a = if eqb k 200 then did (withSingle (bytesOf l) c) a else did c (withProgram (putLine k l (a .program)) a)
-deed (PutOutputs x) k c a = by 255 (withRun (withOutputs (withByte (place k) x (c .run .outputs)) (c .run)) c) a
+deed (PutOutputs x) k c a = did (withRun (withOutputs (withByte (place k) x (c .run .outputs)) (c .run)) c) a
 deed (PutParameter v) k c a = did (withParameter v c) a
 deed (Command s) k c a = special s (withSpecial (codeOf s) c) a
 
@@ -120,14 +116,18 @@ ended reply = reply ++ (13 ∷ [])
 -- "Each 13 gets one reply, then collection starts empty." "An error reply changes nothing but the emptied collection."
 unfoldable pub answer : Res Asked → Controller → Areas → Did
 answer (refused e) c a = writing (ended (errorText e)) (did (withWire (cleared (c .wire)) c) a)
-answer (passed asked) c a =
-    let k = asked .address in
-    writing (ended (replyTo (asked .deed) k c a))
-    (deed (asked .deed) k (withWire (cleared (lastMoved (asked .deed) k (c .wire))) c) a)
+answer (passed q) c a =
+    let k = q .address in
+    writing (ended (replyTo (q .deed) k c a))
+    (deed (q .deed) k (withWire (cleared (lastMoved (q .deed) k (c .wire))) c) a)
+
+-- what the command collected so far asks for, or its error
+abbrev pub asked : Controller → Res Asked
+asked c = command (c .wire) (mode c) (c .panel .parameter)
 
 unfoldable pub byte : ℕ → Controller → Areas → Did
 byte x c a =
-    if eqb x 13 then answer (command (c .wire) (mode c) (c .panel .parameter)) c a
+    if eqb x 13 then answer (asked c) c a
     else did (withWire (collect x (c .wire)) c) a
 
 -- ---- a tick and a press

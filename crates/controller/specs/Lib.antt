@@ -3,3 +3,4 @@ pub mod Variables
 pub mod Deeds
 pub mod Refusals
 pub mod Calls
+pub mod Invariant

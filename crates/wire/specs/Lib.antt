@@ -1,3 +1,5 @@
 pub mod Collecting
 pub mod Special
 pub mod Command
+pub mod Naming
+pub mod Invariant

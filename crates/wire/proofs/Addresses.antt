@@ -1,0 +1,65 @@
+-- Laws of addresses: a named address is found, and none lies outside 000-216.
+-- Assumes nothing.
+use mathlib.Core.Path.{_≡_, refl, sym, ap, _∙_}
+use Prim.Native.Nat.{ℕ, zero, suc, _+_, _-_, _/_, _%_, _^_, _≤_, _<_}
+use Prim.Native.Char.{code}
+use native.Mathlib.Omega.{arith}
+use mathlib.Core.Bool.{Bool, true, false, not, _&&_, _||_}
+use mathlib.Core.List.{List, [], _∷_, _++_}
+use lib.ListN.{length, getD, take, drop}
+use lib.Dec.{eqb, leb, ltb}
+use borrow.Author.Tests.{le-leb, leb-true, eqb-true, not-true}
+use Rattle.formats.specs.Checks.{if_then_else_, Res, refused, passed, _>>=_, _>>_, _orElse_, text}
+use Rattle.formats.specs.Digits.{digits, digitChar, shown, numberIn}
+use Rattle.formats.proofs.Checks.{if-case, both-true, below, Ok, ok-passed, ok-guard}
+use Rattle.formats.proofs.Characters.{shown-back}
+use Rattle.wire.specs.Command.{char, isStepwise, rest, addressIn}
+use Rattle.wire.specs.Naming.{Names, byDigits, byI, byD}
+
+-- no digit is the letter I or D
+digit-no-letter : (v : ℕ) → v < 10 → (eqb (digitChar v) (code "I") ≡ false) × (eqb (digitChar v) (code "D") ≡ false)
+digit-no-letter v lt =
+    let e = below (λ v. not (eqb (digitChar v) (code "I")) && not (eqb (digitChar v) (code "D"))) 10 refl v lt in
+    let p = both-true (not (eqb (digitChar v) (code "I"))) (not (eqb (digitChar v) (code "D"))) e in
+    (not-true _ (p .0), not-true _ (p .1))
+
+-- the characters x y, an address and more
+module _ (x y last k : ℕ) (inside : k ≤ 216) (more : List ℕ) where
+  abbrev after : List ℕ → List ℕ
+  after a = x ∷ y ∷ (a ++ more)
+
+  -- the address that a command names, and what stands behind it
+  pub record Found (a : List ℕ) : Type 0 where
+    pub address : addressIn last (after a) ≡ passed k
+    pub behind : rest (after a) ≡ more
+    pub three : leb 3 (length (after a)) ≡ true
+    pub long : (isStepwise (after a) || leb 5 (length (after a))) ≡ true
+
+  found-digits : Found (shown 10 3 k)
+  unfolding addressIn shown digits _>>=_ _>>_ _orElse_
+  found-digits =
+      let n = digit-no-letter (k / 10 / 10 % 10) (omega arith) in
+      let b : numberIn 10 4 (shown 10 3 k) ≡ passed k = shown-back 10 (omega arith) (omega arith) 4 3 k (omega arith) in
+      record {
+        address = rw (n .0, n .1, b, le-leb k 216 inside);
+        behind = rw (n .0, n .1);
+        three = le-leb 3 (length (after (shown 10 3 k))) (omega arith);
+        long = rw (n .0, n .1, le-leb 5 (length (after (shown 10 3 k))) (omega arith));
+      }
+
+  pub found : {a : List ℕ} → Names last k a → Found a
+  unfolding addressIn text _>>_ _orElse_
+  found (byDigits e) = rw e found-digits
+  found (byI e n) = rw e (record { address = rw (le-leb (last + 1) 216 (omega arith)) (ap passed (sym n)); behind = refl; three = le-leb 3 (suc (suc (suc (length more)))) (omega arith); long = refl })
+  found (byD e n) = rw e (record { address = rw (le-leb 1 last (omega arith)) (ap passed (omega arith)); behind = refl; three = le-leb 3 (suc (suc (suc (length more)))) (omega arith); long = refl })
+
+-- Every address that passes the check lies in 000-216.
+pub address-inside : (last : ℕ) (cs : List ℕ) → last ≤ 216 → Ok (λ k. k ≤ 216) (addressIn last cs)
+unfolding addressIn
+address-inside last cs le =
+    if-case (Ok (λ k. k ≤ 216)) (eqb (char cs 2) (code "I"))
+    (λ _. ok-guard (λ k. k ≤ 216) (leb (last + 1) 216) 4 _ λ e. leb-true (last + 1) 216 e) λ _.
+    if-case (Ok (λ k. k ≤ 216)) (eqb (char cs 2) (code "D"))
+    (λ _. ok-guard (λ k. k ≤ 216) (leb 1 last) 4 _ λ _. omega arith) λ _.
+    ok-passed (λ k. k ≤ 216) (numberIn 10 4 (take 3 (drop 2 cs))) _ λ k _.
+    ok-guard (λ k. k ≤ 216) (leb k 216) 4 _ λ e. leb-true k 216 e

@@ -1,0 +1,45 @@
+-- Laws of collecting: the invariant is kept, and what is kept is what was received.
+-- Assumes nothing.
+use mathlib.Core.Path.{_≡_, refl, sym, ap, _∙_}
+use Prim.Native.Nat.{ℕ, zero, suc, _+_, _≤_, _<_}
+use native.Mathlib.Omega.{arith}
+use mathlib.Core.Bool.{Bool, true, false}
+use mathlib.Core.List.{List, [], _∷_, _++_}
+use lib.ListN.{length, take, set, length-set}
+use lib.Seq.{take-suc-set}
+use lib.Dec.{eqb, ltb}
+use borrow.Author.Tests.{ltb-true, lt-ltb}
+use native.Mathlib.Numerals.{add-one}
+use Rattle.formats.specs.Checks.{if_then_else_}
+use Rattle.formats.proofs.Checks.{if-case}
+use Rattle.wire.specs.declared.Wire.{Wire}
+use Rattle.wire.specs.Collecting.{room, kept, tooLong, collect, cleared}
+use Rattle.wire.specs.Invariant.{WireInvariant}
+
+-- the characters kept
+abbrev pub collected : Wire → List ℕ
+collected w = take (w .len) (w .chars)
+
+pub collect-kept : (x : ℕ) (w : Wire) → WireInvariant w → WireInvariant (collect x w)
+unfolding collect
+collect-kept x w i =
+    if-case WireInvariant (eqb x 32) (λ _. i) λ _.
+    if-case WireInvariant (ltb (w .len) room)
+    (λ e.
+    record {
+      whole = length-set (w .chars) (w .len) x ∙ i .whole;
+      fits = omega (arith, ltb-true (w .len) room e);
+      lastRead = i .lastRead;
+      lastWrite = i .lastWrite;
+    })
+    (λ _. record { whole = i .whole; fits = i .fits; lastRead = i .lastRead; lastWrite = i .lastWrite })
+
+pub cleared-kept : (w : Wire) → WireInvariant w → WireInvariant (cleared w)
+cleared-kept w i = record { whole = i .whole; fits = omega arith; lastRead = i .lastRead; lastWrite = i .lastWrite }
+
+-- A character for which there is room stands behind those kept before, as received.
+pub kept-last : (x : ℕ) (w : Wire) → WireInvariant w → eqb x 32 ≡ false → w .len < room → collected (collect x w) ≡ collected w ++ (x ∷ [])
+unfolding collect
+kept-last x w i other lt =
+    rw (other, lt-ltb (w .len) room lt, add-one (w .len))
+    (take-suc-set (w .chars) (w .len) x (omega (arith, i .whole)))

@@ -1,0 +1,4 @@
+pub mod Collecting
+pub mod Addresses
+pub mod Commands
+pub mod Quiet
