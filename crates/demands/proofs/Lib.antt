@@ -1,1 +1,4 @@
 pub mod Worked
+pub mod Steps
+pub mod Answered
+pub mod LogTells

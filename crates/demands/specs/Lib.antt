@@ -1,1 +1,5 @@
 pub mod Points
+pub mod Histories
+pub mod Changes
+pub mod Undisturbed
+pub mod ReadBack

@@ -1,0 +1,73 @@
+-- Demand 1: "Every byte, tick, button number and lent area, of every length and content, gets a defined reply or refusal and the
+-- call ends. The box checks its callers itself. A refused call changes only what document 01 says it changes."
+-- Every call has an outcome because `call` is a function; here is what the outcome is where something is refused.
+-- Assumes nothing.
+use mathlib.Core.Path.{_≡_, refl, sym, ap, _∙_}
+use mathlib.Core.Logic.{_≢_}
+use Prim.Native.Nat.{ℕ, _≤_}
+use mathlib.Core.Bool.{Bool, true, false, not}
+use mathlib.Core.List.{List, [], _∷_, _++_}
+use lib.ListN.{length}
+use lib.Dec.{eqb}
+use borrow.Author.Tests.{eq-eqb}
+use Rattle.formats.specs.Checks.{if_then_else_, Res, refused, passed}
+use Rattle.formats.specs.Digits.{errorText}
+use Rattle.wire.specs.Collecting.{cleared}
+use Rattle.controller.specs.declared.Controller.{Controller}
+use Rattle.controller.specs.declared.Answer.{Answer}
+use Rattle.controller.specs.Controller.{withWire, withOut, Areas, fresh}
+use Rattle.controller.specs.Deeds.{over, ended, asked, answer, writing}
+use Rattle.controller.specs.Deeds as Deeds
+use Rattle.controller.specs.Refusals.{Call, powerOn, byte}
+use Rattle.controller.specs.Calls.{After, does, logged, call}
+use Rattle.controller.specs.Invariant.{Invariant}
+use Rattle.controller.proofs.Invariant.{fresh-invariant, call-invariant}
+use Rattle.controller.proofs.Refusals.{refusedWith, refused-call, accepted-call}
+use Rattle.demands.specs.Histories.{Made, Held, unpowered, outcome, isAccepted, isPowerOn, next, after}
+
+-- ---- the invariant
+
+invariant-from : (h : Held) (ms : List Made) → Invariant (h .state) → Invariant (after h ms .state)
+unfolding after next outcome
+invariant-from h [] i = i
+invariant-from h (m ∷ ms) i = invariant-from (next h m) ms (call-invariant (m .call) (h .state) (m .areas) i)
+
+-- The invariant holds after every sequence of calls, whatever is lent to them.
+pub invariant-always : (ms : List Made) → Invariant (after unpowered ms .state)
+invariant-always ms = invariant-from unpowered ms (fresh-invariant 0)
+
+-- ---- refusals
+
+-- A refused call leaves the state and every lent byte as they were, and its counts and lengths are 0.
+pub refused-leaves : (k : Call) (c : Controller) (a : Areas) → isPowerOn k ≡ false → call k c a .answer .refusal ≢ 0
+    → call k c a ≡ record { answer = record { state = c; refusal = call k c a .answer .refusal; lines = 0; written = 0 }; areas = a }
+refused-leaves k c a other ne = refused-call k c a ne ∙ same k other
+  where
+    same : (k′ : Call) → isPowerOn k′ ≡ false → refusedWith (call k c a .answer .refusal) k′ c a
+        ≡ record { answer = record { state = c; refusal = call k c a .answer .refusal; lines = 0; written = 0 }; areas = a }
+    same powerOn e = absurd (mathlib.Core.Bool.true≢false e)
+    same (byte x) e = refl
+    same Call.tick e = refl
+    same (Call.press n) e = refl
+    same Call.emptying e = refl
+
+-- A refused power-on returns the power-on state with a log length of 0, and loads nothing.
+pub refused-power-on : (c : Controller) (a : Areas) → call powerOn c a .answer .refusal ≢ 0
+    → call powerOn c a ≡ record { answer = record { state = fresh 0; refusal = call powerOn c a .answer .refusal; lines = 0; written = 0 }; areas = a }
+refused-power-on c a ne = refused-call powerOn c a ne
+
+-- ---- error replies
+
+-- what an error reply leaves: the collection is empty, and the reply stands at the start of its area
+abbrev pub afterError : ℕ → Controller → Areas → After
+afterError e c a = record {
+  answer = record { state = withWire (cleared (c .wire)) c; refusal = 0; lines = 0; written = length (ended (errorText e)) };
+  areas = withOut (over (ended (errorText e)) (a .out)) a;
+}
+
+-- An error reply changes nothing but the emptied collection.
+pub error-changes-nothing : (c : Controller) (a : Areas) (e : ℕ) → call (byte 13) c a .answer .refusal ≡ 0 → asked c ≡ refused e
+    → call (byte 13) c a ≡ afterError e c a
+unfolding does Deeds.byte answer writing logged
+error-changes-nothing c a e ok err =
+    accepted-call (byte 13) c a ok .1 ∙ rw (err, eq-eqb (c .run .outputs) (c .run .outputs) refl)

@@ -1,0 +1,166 @@
+-- Demand 2, the log: "The log holds each output change since power-on or the last emptying, in order, or the first of them and
+-- the exact number lost, up to document 01's cap."
+-- Assumes nothing.
+use mathlib.Core.Path.{_≡_, refl, sym, ap, ap₂, subst, _∙_}
+use Prim.Native.Nat.{ℕ, _*_, _≤_}
+use native.Mathlib.Omega.{arith}
+use mathlib.Core.Bool.{Bool, true, false, not, _&&_}
+use mathlib.Core.List.{List, [], _∷_, _++_, append-nil}
+use lib.ListN.{length}
+use lib.Dec.{eqb, leb}
+use borrow.Author.Tests.{leb-true, eqb-true, eq-eqb}
+use Rattle.formats.specs.Checks.{if_then_else_}
+use Rattle.formats.proofs.Checks.{both-true}
+use Rattle.log.specs.declared.Change.{Change}
+use Rattle.log.specs.declared.Log.{Log}
+use Rattle.log.specs.Log.{R, Logged, addChange, records, emptied, history}
+use Rattle.log.proofs.Histories.{Holds, holds-nothing, holds-more, records-tell}
+use Rattle.controller.specs.declared.Controller.{Controller}
+use Rattle.controller.specs.Controller.{Areas, fresh}
+use Rattle.controller.specs.Deeds.{Did, over, writing}
+use Rattle.controller.specs.Refusals.{Call, powerOn, byte, tick, press, emptying, isLog, isSameLog, ok031}
+use Rattle.controller.specs.Calls.{After, does, given, changeOf, logFor, logged, call}
+use Rattle.controller.proofs.Refusals.{Checked, accepted-call}
+use Rattle.demands.specs.Histories.{Made, Held, unpowered, outcome, isAccepted, isPowerOn, next, after, HandsOn, AllHandOn}
+use Rattle.demands.specs.Changes.{change, sinceCall, since}
+use Rattle.demands.proofs.Steps.{done, Step, passes, fails, stepped}
+-- ---- what holds after each call
+
+-- the log of an accepted power-on holds the changes cs; after a refused one there is no log
+data Tells (cs : List Change) (h : Held) : Type 0 where
+  unlogged : h .state .log .size ≡ 0 → Tells cs h
+  tells : Holds cs (h .state .log) (h .log) → Tells cs h
+
+-- an area that a call accepts as its log is long enough
+long-enough : (c : Controller) (area : List ℕ) → isSameLog c area ≡ true → (24 ≤ c .log .size) × (length area ≡ c .log .size)
+long-enough c area e =
+    let p = both-true (isLog area) (eqb (length area) (c .log .size)) e in
+    let q = both-true (leb 24 (length area)) (leb (length area) 65536) (p .0) in
+    let same = eqb-true (length area) (c .log .size) (p .1) in
+    (omega (arith, leb-true 24 (length area) (q .0)), same)
+
+held-by : (cs : List Change) (h : Held) (area : List ℕ) → Tells cs h → isSameLog (h .state) area ≡ true → area ≡ h .log → Holds cs (h .state .log) area
+held-by cs h area (tells g) e same = rw same g
+held-by cs h area (unlogged z) e same = absurd (omega (arith, long-enough (h .state) area e .0))
+
+-- the list and the log grow by the same test
+by-test : (cs : List Change) (b : Bool) (l : Log) (area : List ℕ) (new : Change) (g : Logged) → Holds cs l area
+    → g ≡ (if not b then addChange l area new else record { log = l; area = area }) → Holds (cs ++ (if b then [] else new ∷ [])) (g .log) (g .area)
+by-test cs true l area new g h e = rw (append-nil, e) h
+by-test cs false l area new g h e = rw e (holds-more cs l area new h)
+
+-- a byte, a tick or a press: the call is given the state, adds to its log, and is held to its log's length
+record Ordinary (k : Call) (c : Controller) (a : Areas) : Type 0 where
+  same : given k c ≡ c
+  onto : logFor k c a ≡ c .log
+  sized : ok031 k c a ≡ isSameLog c (a .log)
+  other : isPowerOn k ≡ false
+
+logged-is : (k : Call) (c : Controller) (a : Areas) (x : Did) → Ordinary k c a → logged k c a x
+    ≡ (if not (eqb (c .run .outputs) (x .state .run .outputs)) then addChange (c .log) (a .log) (changeOf k c (x .state)) else record { log = c .log; area = a .log })
+unfolding logged
+logged-is k c a x o =
+    ap₂ (λ (g : Controller) (l : Log). if not (eqb (g .run .outputs) (x .state .run .outputs)) then addChange l (a .log) (changeOf k c (x .state)) else record { log = l; area = a .log })
+    (o .same) (o .onto)
+
+change-of : Held → Made → Controller → List Change
+change-of h m now = if eqb (h .state .run .outputs) (now .run .outputs) then [] else changeOf (m .call) (h .state) now ∷ []
+
+ordinary : (cs : List Change) (h : Held) (k : Call) (a : Areas) → let m : Made = record { call = k; areas = a } in
+    Ordinary k (h .state) a → HandsOn h m → Tells cs h → Tells (cs ++ change h m) (next h m)
+unfolding change change-of
+ordinary cs h k a o hands t = go (stepped h m)
+  where
+    m : Made
+    m = record { call = k; areas = a }
+
+    changed : (now : Controller) → outcome h m .answer .state ≡ now → change h m ≡ change-of h m now
+    changed now e = ap (change-of h m) e
+
+    go : Step h m → Tells (cs ++ change h m) (next h m)
+    go (fails ok n e f) =
+        let e′ : outcome h m .answer .state ≡ h .state = ap (λ (r : After). r .answer .state) e ∙ o .same in
+        let none : change h m ≡ [] = changed (h .state) e′ ∙ rw (eq-eqb (h .state .run .outputs) (h .state .run .outputs) refl) in
+        rw (f, o .same, none, append-nil) t
+    go (passes ok ch e f) =
+        let x = does k (h .state) a in
+        let g = held-by cs h (a .log) t (sym (o .sized) ∙ ch .passed031) (hands .log (o .other) ok) in
+        rw (f, changed _ (ap (λ (r : After). r .answer .state) e))
+        (tells (by-test cs (eqb (h .state .run .outputs) (x .state .run .outputs)) (h .state .log) (a .log) (changeOf k (h .state) (x .state))
+        (logged k (h .state) a x) g (logged-is k (h .state) a x o)))
+
+-- power-on begins a log, or leaves none
+at-power-on : (cs : List Change) (h : Held) (a : Areas) → Tells [] (next h (record { call = powerOn; areas = a }))
+unfolding does logged fresh emptied
+at-power-on cs h a = go (stepped h (record { call = powerOn; areas = a }))
+  where
+    go : Step h (record { call = powerOn; areas = a }) → Tells [] (next h (record { call = powerOn; areas = a }))
+    go (fails ok n e f) = rw f (unlogged refl)
+    go (passes ok ch e f) =
+        let q = both-true (leb 24 (length (a .log))) (leb (length (a .log)) 65536) (ch .passed031) in
+        rw f (tells (holds-nothing (length (a .log)) (a .log) (leb-true 24 (length (a .log)) (q .0)) refl))
+
+-- emptying begins it anew, or is refused
+at-emptying : (cs : List Change) (h : Held) (a : Areas) → let m : Made = record { call = emptying; areas = a } in
+    HandsOn h m → Tells cs h → Tells (if isAccepted h m then [] else cs) (next h m)
+unfolding does logged writing
+at-emptying cs h a hands t = go (stepped h (record { call = emptying; areas = a }))
+  where
+    go : Step h (record { call = emptying; areas = a }) → Tells (if isAccepted h (record { call = emptying; areas = a }) then [] else cs) (next h (record { call = emptying; areas = a }))
+    go (fails ok n e f) = rw (ok, f) t
+    go (passes ok ch e f) =
+        let s = long-enough (h .state) (a .log) (ch .passed031) in
+        rw (ok, f, eq-eqb (h .state .run .outputs) (h .state .run .outputs) refl)
+        (tells (holds-nothing (h .state .log .size) (a .log) (s .0) (s .1)))
+
+tells-next : (cs : List Change) (h : Held) (k : Call) (a : Areas) → let m : Made = record { call = k; areas = a } in
+    HandsOn h m → Tells cs h → Tells (sinceCall cs k h m) (next h m)
+tells-next cs h powerOn a hands t = at-power-on cs h a
+tells-next cs h (byte x) a hands t = ordinary cs h (byte x) a (record { same = refl; onto = refl; sized = refl; other = refl }) hands t
+tells-next cs h tick a hands t = ordinary cs h tick a (record { same = refl; onto = refl; sized = refl; other = refl }) hands t
+tells-next cs h (press n) a hands t = ordinary cs h (press n) a (record { same = refl; onto = refl; sized = refl; other = refl }) hands t
+tells-next cs h emptying a hands t = at-emptying cs h a hands t
+
+tells-after : (cs : List Change) (h : Held) (ms : List Made) → AllHandOn h ms → Tells cs h → Tells (since cs h ms) (after h ms)
+unfolding since after
+tells-after cs h [] hands t = t
+tells-after cs h (m ∷ ms) hands t =
+    tells-after (sinceCall cs (m .call) h m) (next h m) ms (hands .1) (tells-next cs h (m .call) (m .areas) (hands .0) t)
+
+-- ---- the demand
+
+unpowered-size : unpowered .state .log .size ≡ 0
+unfolding fresh emptied
+unpowered-size = refl
+
+-- The records held after any calls are the history of the changes since power-on or the last emptying.
+pub log-tells : (ms : List Made) → AllHandOn unpowered ms → 24 ≤ after unpowered ms .state .log .size
+    → let h = after unpowered ms in records (h .state .log) (h .log) ≡ history (R (h .state .log)) (since [] unpowered ms)
+log-tells ms hands powered = go (tells-after [] unpowered ms hands (unlogged unpowered-size))
+  where
+    go : Tells (since [] unpowered ms) (after unpowered ms)
+        → records (after unpowered ms .state .log) (after unpowered ms .log) ≡ history (R (after unpowered ms .state .log)) (since [] unpowered ms)
+    go (tells g) = records-tell (since [] unpowered ms) _ _ g
+    go (unlogged z) = absurd (omega arith)
+
+-- what an accepted emptying leaves in its destination, and the count that it returns
+copied : (h : Held) (a : Areas) → let m : Made = record { call = emptying; areas = a } in
+    isAccepted h m ≡ true → (outcome h m .areas .out ≡ over (records (h .state .log) (a .log)) (a .out)) × (outcome h m .answer .written ≡ length (records (h .state .log) (a .log)))
+unfolding outcome does writing
+copied h a ok =
+    let e = accepted-call emptying (h .state) a (eqb-true _ _ ok) .1 in
+    (ap (λ (r : After). r .areas .out) e, ap (λ (r : After). r .answer .written) e)
+
+-- Emptying after any calls copies that history to the start of its destination, leaves the rest, and returns its length.
+pub emptying-tells : (ms : List Made) (a : Areas) → AllHandOn unpowered ms → let h = after unpowered ms in let m : Made = record { call = emptying; areas = a } in
+    HandsOn h m → isAccepted h m ≡ true → let told = history (R (h .state .log)) (since [] unpowered ms) in
+    (outcome h m .areas .out ≡ over told (a .out)) × (outcome h m .answer .written ≡ length told)
+unfolding outcome
+emptying-tells ms a hands hand ok =
+    let h = after unpowered ms in
+    let ch = accepted-call emptying (h .state) a (eqb-true _ _ ok) .0 in
+    let s = long-enough (h .state) (a .log) (ch .passed031) in
+    let told : records (h .state .log) (a .log) ≡ history (R (h .state .log)) (since [] unpowered ms) =
+    ap (records (h .state .log)) (hand .log refl ok) ∙ log-tells ms hands (s .0) in
+    let both = copied h a ok in
+    (both .0 ∙ ap (λ rs. over rs (a .out)) told, both .1 ∙ ap (λ (rs : List ℕ). length rs) told)
