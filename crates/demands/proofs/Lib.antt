@@ -2,3 +2,5 @@ pub mod Worked
 pub mod Steps
 pub mod Answered
 pub mod LogTells
+pub mod Undisturbed
+pub mod ByTheRules

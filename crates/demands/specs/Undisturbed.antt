@@ -44,13 +44,13 @@ isPress b tick = false
 isPress b (press n) = eqb n b
 isPress b emptying = false
 
--- The line at which a call starts a program: command 003 or Start/Stop pressed when stopped at 000, command 005 at the parameter.
+-- 003 starts at 000, 005 at the parameter
+abbrev pub startBy : ℕ → ℕ → Option ℕ
+startBy code parameter = if eqb code 3 then some 0 else if eqb code 5 then some parameter else none
+
+-- The line at which a call starts a program, if it is accepted; Start/Stop "starts at 000 when stopped".
 unfoldable pub startLine : Call → Controller → Option ℕ
-startLine k c =
-    if eqb (commandOf k c) 3 then some 0
-    else if eqb (commandOf k c) 5 then some (c .panel .parameter)
-    else if isPress 1 k && not (c .run .on) then some 0
-    else none
+startLine k c = if isPress 1 k && not (c .run .on) then some 0 else startBy (commandOf k c) (c .panel .parameter)
 
 -- the program is stopped, by command 001 or by Start/Stop, or power-on is called
 unfoldable pub isBroken : Held → Made → Bool
