@@ -4,3 +4,4 @@ pub mod Answered
 pub mod LogTells
 pub mod Undisturbed
 pub mod ByTheRules
+pub mod ReadsBack

@@ -12,6 +12,7 @@ use Rattle.wire.specs.declared.Deed.the-variants.{Read, PutLine, PutOutputs, Pu
 use Rattle.wire.specs.declared.Asked.{Asked}
 use Rattle.wire.specs.Collecting.{sent}
 use Rattle.wire.specs.Special.{codeOf}
+use Rattle.controller.specs.Controller.{Areas}
 use Rattle.controller.specs.Deeds.{asked}
 use Rattle.controller.specs.Refusals.{Call, powerOn, byte, tick, press, emptying}
 use Rattle.demands.specs.Histories.{Made, Held, outcome, isAccepted, isPowerOn, next}
@@ -20,10 +21,13 @@ use Rattle.demands.specs.Histories.{Made, Held, outcome, isAccepted, isP
 unfoldable pub reply : Held → Made → List ℕ
 reply h m = take (outcome h m .answer .written) (outcome h m .areas .out)
 
--- The call is an accepted byte 13, and what was collected is this text, in capitals and not overlong.
-pub record Finishes (h : Held) (m : Made) (command : List ℕ) : Type 0 where
-  pub ends : m .call ≡ byte 13
-  pub accepted : isAccepted h m ≡ true
+-- "Byte 13 ends a command."
+abbrev pub ending : Areas → Made
+ending a = record { call = byte 13; areas = a }
+
+-- Byte 13 arrives and is accepted, and what was collected is this text, in capitals and not overlong.
+pub record Arrives (h : Held) (a : Areas) (command : List ℕ) : Type 0 where
+  pub accepted : isAccepted h (ending a) ≡ true
   pub collected : sent (h .state .wire) ≡ command
   pub short : h .state .wire .overlong ≡ false
 

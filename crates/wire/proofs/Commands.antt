@@ -8,7 +8,7 @@ use mathlib.Core.Bool.{Bool, true, false, not, _&&_, _||_}
 use mathlib.Core.List.{List, [], _∷_, _++_, append-nil}
 use lib.ListN.{length}
 use lib.Dec.{eqb, leb, ltb}
-use borrow.Author.Tests.{le-leb}
+use borrow.Author.Tests.{le-leb, leb-true}
 use Rattle.formats.specs.Checks.{if_then_else_, Res, refused, passed, _>>=_, _>>_, _orElse_, text}
 use Rattle.formats.proofs.Checks.{if-case, Ok, ok-at, ok-bind, ok-passed, ok-guard}
 use Rattle.lines.specs.declared.Line.{Line}
@@ -45,6 +45,41 @@ asked-inside w mode parameter i =
     ok-guard Inside (isWritable k) 4 _ λ _. ok-guard Inside (isOpen mode k) 5 _ λ _. ok-passed Inside _ _ λ d _. le
 
 -- ---- a read
+
+-- ---- a line
+
+-- a line goes to 000-200
+abbrev pub LineInside : ℕ → Deed → Type 0
+LineInside k Read = Unit {0}
+LineInside k (PutLine l) = k ≤ 200
+LineInside k (PutOutputs x) = Unit {0}
+LineInside k (PutParameter v) = Unit {0}
+LineInside k (Command s) = Unit {0}
+
+pub record Inside200 (asked : Asked) : Type 0 where
+  pub inside : LineInside (asked .address) (asked .deed)
+
+record DeedInside (k : ℕ) (d : Deed) : Type 0 where
+  inside : LineInside k d
+
+write-inside : (mode : Mode) (parameter k : ℕ) (cs : List ℕ) → Ok (DeedInside k) (writeDeed mode parameter k cs)
+unfolding writeDeed lineDeed outputsDeed parameterDeed commandIn
+write-inside mode parameter k cs =
+    if-case (Ok (DeedInside k)) (leb k 200) (λ e. ok-passed (DeedInside k) (lineIn cs) _ λ l _. record { inside = leb-true k 200 e }) λ _.
+    if-case (Ok (DeedInside k)) (leb k 206) (λ _. ok-passed (DeedInside k) (hIn cs) _ λ x _. record { inside = tt }) λ _.
+    if-case (Ok (DeedInside k)) (eqb k 209) (λ _. ok-passed (DeedInside k) (dIn cs) _ λ v _. record { inside = tt }) λ _.
+    ok-passed (DeedInside k) (dIn cs) _ λ n _. ok-passed (DeedInside k) (specialOf n) _ λ s _.
+    ok-guard (DeedInside k) (allowed s mode) 5 _ λ _. ok-guard (DeedInside k) (inReach s parameter) 4 _ λ _. record { inside = tt }
+
+-- Every line that a command puts goes to 000-200.
+pub asked-line-inside : (w : Wire) (mode : Mode) (parameter : ℕ) → Ok Inside200 (command w mode parameter)
+unfolding command readCommand writeCommand
+asked-line-inside w mode parameter =
+    ok-guard Inside200 _ 1 _ λ _. ok-guard Inside200 _ 2 _ λ _.
+    if-case (Ok Inside200) (isRead (sent w)) (λ _. ok-passed Inside200 (addressIn (w .lastread) (sent w)) _ λ k _. ok-guard Inside200 _ 2 _ λ _. record { inside = tt }) λ _.
+    ok-passed Inside200 (addressIn (w .lastwrite) (sent w)) _ λ k _.
+    ok-guard Inside200 (isWritable k) 4 _ λ _. ok-guard Inside200 (isOpen mode k) 5 _ λ _.
+    ok-bind Inside200 (DeedInside k) (writeDeed mode parameter k (rest (sent w))) _ (write-inside mode parameter k (rest (sent w))) λ d h. record { inside = h .inside }
 
 -- ---- a special command
 
