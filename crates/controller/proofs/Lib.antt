@@ -1,2 +1,6 @@
 pub mod Invariant
 pub mod Refusals
+pub mod Errors
+pub mod Moving
+pub mod Lines
+pub mod Logging

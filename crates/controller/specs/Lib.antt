@@ -4,3 +4,4 @@ pub mod Deeds
 pub mod Refusals
 pub mod Calls
 pub mod Invariant
+pub mod Effects

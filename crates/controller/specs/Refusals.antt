@@ -19,6 +19,13 @@ pub data Call : Type 0 where
   press : ℕ → Call
   emptying : Call
 
+abbrev pub isPowerOn : Call → Bool
+isPowerOn powerOn = true
+isPowerOn (byte x) = false
+isPowerOn tick = false
+isPowerOn (press n) = false
+isPowerOn emptying = false
+
 -- 030 "program area or saved copy is not exactly 1,600 bytes"
 abbrev pub isProgram : List ℕ → Bool
 isProgram area = eqb (length area) 1600

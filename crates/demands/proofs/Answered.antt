@@ -18,12 +18,12 @@ use Rattle.controller.specs.declared.Answer.{Answer}
 use Rattle.controller.specs.Controller.{withWire, withOut, Areas, fresh}
 use Rattle.controller.specs.Deeds.{over, ended, asked, answer, writing}
 use Rattle.controller.specs.Deeds as Deeds
-use Rattle.controller.specs.Refusals.{Call, powerOn, byte}
+use Rattle.controller.specs.Refusals.{Call, powerOn, byte, isPowerOn}
 use Rattle.controller.specs.Calls.{After, does, logged, call}
 use Rattle.controller.specs.Invariant.{Invariant}
 use Rattle.controller.proofs.Invariant.{fresh-invariant, call-invariant}
 use Rattle.controller.proofs.Refusals.{refusedWith, refused-call, accepted-call}
-use Rattle.demands.specs.Histories.{Made, Held, unpowered, outcome, isAccepted, isPowerOn, next, after}
+use Rattle.demands.specs.Histories.{Made, Held, unpowered, outcome, isAccepted, next, after}
 
 -- ---- the invariant
 
@@ -55,19 +55,3 @@ refused-leaves k c a other ne = refused-call k c a ne ∙ same k other
 pub refused-power-on : (c : Controller) (a : Areas) → call powerOn c a .answer .refusal ≢ 0
     → call powerOn c a ≡ record { answer = record { state = fresh 0; refusal = call powerOn c a .answer .refusal; lines = 0; written = 0 }; areas = a }
 refused-power-on c a ne = refused-call powerOn c a ne
-
--- ---- error replies
-
--- what an error reply leaves: the collection is empty, and the reply stands at the start of its area
-abbrev pub afterError : ℕ → Controller → Areas → After
-afterError e c a = record {
-  answer = record { state = withWire (cleared (c .wire)) c; refusal = 0; lines = 0; written = length (ended (errorText e)) };
-  areas = withOut (over (ended (errorText e)) (a .out)) a;
-}
-
--- An error reply changes nothing but the emptied collection.
-pub error-changes-nothing : (c : Controller) (a : Areas) (e : ℕ) → call (byte 13) c a .answer .refusal ≡ 0 → asked c ≡ refused e
-    → call (byte 13) c a ≡ afterError e c a
-unfolding does Deeds.byte answer writing logged
-error-changes-nothing c a e ok err =
-    accepted-call (byte 13) c a ok .1 ∙ rw (err, eq-eqb (c .run .outputs) (c .run .outputs) refl)

@@ -18,12 +18,14 @@ use Rattle.log.proofs.Histories.{Holds, holds-nothing, holds-more, records-tell
 use Rattle.controller.specs.declared.Controller.{Controller}
 use Rattle.controller.specs.Controller.{Areas, fresh}
 use Rattle.controller.specs.Deeds.{Did, over, writing}
-use Rattle.controller.specs.Refusals.{Call, powerOn, byte, tick, press, emptying, isLog, isSameLog, ok031}
+use Rattle.controller.specs.Refusals.{Call, powerOn, byte, tick, press, emptying, isLog, isSameLog, ok031, isPowerOn}
 use Rattle.controller.specs.Calls.{After, does, given, changeOf, logFor, logged, call}
 use Rattle.controller.proofs.Refusals.{Checked, accepted-call}
-use Rattle.demands.specs.Histories.{Made, Held, unpowered, outcome, isAccepted, isPowerOn, next, after, HandsOn, AllHandOn}
+use Rattle.controller.proofs.Logging.{Ordinary, byte-ordinary, tick-ordinary, press-ordinary, logged-is}
+use Rattle.demands.specs.Histories.{Made, Held, unpowered, outcome, isAccepted, next, after, HandsOn, AllHandOn}
 use Rattle.demands.specs.Changes.{change, sinceCall, since}
 use Rattle.demands.proofs.Steps.{done, Step, passes, fails, stepped}
+
 -- ---- what holds after each call
 
 -- the log of an accepted power-on holds the changes cs; after a refused one there is no log
@@ -48,20 +50,6 @@ by-test : (cs : List Change) (b : Bool) (l : Log) (area : List ℕ) (new : Chang
     → g ≡ (if not b then addChange l area new else record { log = l; area = area }) → Holds (cs ++ (if b then [] else new ∷ [])) (g .log) (g .area)
 by-test cs true l area new g h e = rw (append-nil, e) h
 by-test cs false l area new g h e = rw e (holds-more cs l area new h)
-
--- a byte, a tick or a press: the call is given the state, adds to its log, and is held to its log's length
-record Ordinary (k : Call) (c : Controller) (a : Areas) : Type 0 where
-  same : given k c ≡ c
-  onto : logFor k c a ≡ c .log
-  sized : ok031 k c a ≡ isSameLog c (a .log)
-  other : isPowerOn k ≡ false
-
-logged-is : (k : Call) (c : Controller) (a : Areas) (x : Did) → Ordinary k c a → logged k c a x
-    ≡ (if not (eqb (c .run .outputs) (x .state .run .outputs)) then addChange (c .log) (a .log) (changeOf k c (x .state)) else record { log = c .log; area = a .log })
-unfolding logged
-logged-is k c a x o =
-    ap₂ (λ (g : Controller) (l : Log). if not (eqb (g .run .outputs) (x .state .run .outputs)) then addChange l (a .log) (changeOf k c (x .state)) else record { log = l; area = a .log })
-    (o .same) (o .onto)
 
 change-of : Held → Made → Controller → List Change
 change-of h m now = if eqb (h .state .run .outputs) (now .run .outputs) then [] else changeOf (m .call) (h .state) now ∷ []
@@ -116,9 +104,9 @@ at-emptying cs h a hands t = go (stepped h (record { call = emptying; areas = a 
 tells-next : (cs : List Change) (h : Held) (k : Call) (a : Areas) → let m : Made = record { call = k; areas = a } in
     HandsOn h m → Tells cs h → Tells (sinceCall cs k h m) (next h m)
 tells-next cs h powerOn a hands t = at-power-on cs h a
-tells-next cs h (byte x) a hands t = ordinary cs h (byte x) a (record { same = refl; onto = refl; sized = refl; other = refl }) hands t
-tells-next cs h tick a hands t = ordinary cs h tick a (record { same = refl; onto = refl; sized = refl; other = refl }) hands t
-tells-next cs h (press n) a hands t = ordinary cs h (press n) a (record { same = refl; onto = refl; sized = refl; other = refl }) hands t
+tells-next cs h (byte x) a hands t = ordinary cs h (byte x) a (byte-ordinary x (h .state) a) hands t
+tells-next cs h tick a hands t = ordinary cs h tick a (tick-ordinary (h .state) a) hands t
+tells-next cs h (press n) a hands t = ordinary cs h (press n) a (press-ordinary n (h .state) a) hands t
 tells-next cs h emptying a hands t = at-emptying cs h a hands t
 
 tells-after : (cs : List Change) (h : Held) (ms : List Made) → AllHandOn h ms → Tells cs h → Tells (since cs h ms) (after h ms)

@@ -3,11 +3,12 @@
 use mathlib.Core.Path.{_≡_, refl, sym, ap, _∙_}
 use Prim.Native.Nat.{ℕ}
 use native.Mathlib.Omega.{arith}
-use mathlib.Core.Bool.{Bool, true, false}
+use mathlib.Core.Bool.{Bool, true, false, _&&_, true≢false}
 use lib.Dec.{eqb}
 use borrow.Author.Tests.{ne-eqb}
 use Rattle.formats.specs.Checks.{if_then_else_}
-use Rattle.controller.specs.Controller.{withLog}
+use Rattle.controller.specs.declared.Controller.{Controller}
+use Rattle.controller.specs.Refusals.{Call, powerOn, byte, tick, press, emptying, isPowerOn}
 use Rattle.controller.specs.Calls.{After, does, given, logged, accepted}
 use Rattle.controller.proofs.Refusals.{Checked, refusedWith, Settled, taken, refusal, every-call-settled}
 use Rattle.demands.specs.Histories.{Made, Held, outcome, isAccepted, next}
@@ -39,3 +40,15 @@ stepped h m = go (every-call-settled (m .call) (h .state) (m .areas))
     go (refusal n lo hi e) =
         let ne : eqb n 0 ≡ false = ne-eqb n 0 (λ z. omega arith) in
         fails (ap (λ (r : After). eqb (r .answer .refusal) 0) e ∙ ne) n e (ap (heldAfter h) e ∙ rw ne)
+
+pub both-false : (b t : Bool) → b ≡ true → (b && t) ≡ false → t ≡ false
+both-false true t ok e = e
+both-false false t ok e = absurd (true≢false (sym ok))
+
+-- a call other than power-on is given the state
+pub given-same : (k : Call) (c : Controller) → isPowerOn k ≡ false → given k c ≡ c
+given-same powerOn c e = absurd (true≢false e)
+given-same (byte x) c e = refl
+given-same tick c e = refl
+given-same (press n) c e = refl
+given-same emptying c e = refl

@@ -7,7 +7,7 @@ use lib.Dec.{eqb}
 use Rattle.formats.specs.Checks.{if_then_else_}
 use Rattle.controller.specs.declared.Controller.{Controller}
 use Rattle.controller.specs.Controller.{Areas, fresh}
-use Rattle.controller.specs.Refusals.{Call, powerOn, byte, tick, press, emptying}
+use Rattle.controller.specs.Refusals.{Call, isPowerOn}
 use Rattle.controller.specs.Calls.{After, call}
 
 -- a call and the areas that it is lent, of any length and content
@@ -43,13 +43,6 @@ next h m = record {
 unfoldable pub after : Held → List Made → Held
 after h [] = h
 after h (m ∷ ms) = after (next h m) ms
-
-abbrev pub isPowerOn : Call → Bool
-isPowerOn powerOn = true
-isPowerOn (byte x) = false
-isPowerOn tick = false
-isPowerOn (press n) = false
-isPowerOn emptying = false
 
 -- 00: "In 2 and 3 the caller alters neither the program area nor the log between calls." What is lent to power-on, or to a call
 -- that is refused, may be anything. (Emptying is not lent the program, and leaves what stands here as its program area.)

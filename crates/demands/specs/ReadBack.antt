@@ -5,17 +5,11 @@ use mathlib.Core.Bool.{Bool, true, false, _&&_, _||_}
 use mathlib.Core.List.{List, [], _∷_, _++_}
 use lib.ListN.{take}
 use lib.Dec.{eqb}
-use Rattle.formats.specs.Checks.{if_then_else_, Res, refused, passed, text}
-use Rattle.lines.specs.declared.Line.{Line}
-use Rattle.wire.specs.declared.Deed.{Deed}
-use Rattle.wire.specs.declared.Deed.the-variants.{Read, PutLine, PutOutputs, PutParameter, Command}
-use Rattle.wire.specs.declared.Asked.{Asked}
 use Rattle.wire.specs.Collecting.{sent}
-use Rattle.wire.specs.Special.{codeOf}
 use Rattle.controller.specs.Controller.{Areas}
-use Rattle.controller.specs.Deeds.{asked}
-use Rattle.controller.specs.Refusals.{Call, powerOn, byte, tick, press, emptying}
-use Rattle.demands.specs.Histories.{Made, Held, outcome, isAccepted, isPowerOn, next}
+use Rattle.controller.specs.Effects.{replaces}
+use Rattle.controller.specs.Refusals.{Call, powerOn, byte, tick, press, emptying, isPowerOn}
+use Rattle.demands.specs.Histories.{Made, Held, outcome, isAccepted, next}
 
 -- the reply of a call, as it stands in its area
 unfoldable pub reply : Held → Made → List ℕ
@@ -31,28 +25,9 @@ pub record Arrives (h : Held) (a : Areas) (command : List ℕ) : Type 0 where
   pub collected : sent (h .state .wire) ≡ command
   pub short : h .state .wire .overlong ≡ false
 
--- "a later write, a load or a power-on replaces it": an accepted write to k, command 007, or power-on
-abbrev pub replacedBy : ℕ → ℕ → Deed → Bool
-replacedBy k address Read = false
-replacedBy k address (PutLine l) = eqb k address
-replacedBy k address (PutOutputs x) = false
-replacedBy k address (PutParameter v) = false
-replacedBy k address (Command s) = eqb (codeOf s) 7
-
-abbrev pub replacedByAsked : ℕ → Res Asked → Bool
-replacedByAsked k (refused e) = false
-replacedByAsked k (passed q) = replacedBy k (q .address) (q .deed)
-
-abbrev pub replacedByCall : ℕ → Call → Held → Bool
-replacedByCall k powerOn h = true
-replacedByCall k (byte x) h = eqb x 13 && replacedByAsked k (asked (h .state))
-replacedByCall k tick h = false
-replacedByCall k (press n) h = false
-replacedByCall k emptying h = false
-
 -- a refused call replaces nothing, but for a refused power-on, which makes a new state
 unfoldable pub isReplaced : ℕ → Held → Made → Bool
-isReplaced k h m = (isPowerOn (m .call) || isAccepted h m) && replacedByCall k (m .call) h
+isReplaced k h m = (isPowerOn (m .call) || isAccepted h m) && replaces k (m .call) (h .state)
 
 abbrev pub Unreplaced : ℕ → Held → List Made → Type 0
 Unreplaced k h [] = Unit {0}

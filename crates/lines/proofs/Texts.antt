@@ -83,8 +83,8 @@ module _ (cs : List ℕ) (some : 0 < length cs) where
       ok-bind (Sent cs) (Read 10 4 (part 11 4 cs)) _ _ (part-read 10 11 4 cs (omega arith) (omega arith) (omega arith)) λ t ht.
       record {
         shows = rw (ho .shows, ht .shows)
-          (begins c (part-and-rest 1 2 3 cs refl ∙ ap₂ (λ a b. a ++ b) (sym (hz .shows) ∙ ap (shown 10 2) (eqb-true z 0 ez) ∙ zeros)
-          (part-and-rest 3 8 11 cs refl ∙ ap (λ r. part 3 8 cs ++ r) (last-part 11 4 cs (sym n)))));
+            (begins c (part-and-rest 1 2 3 cs refl ∙ ap₂ (λ a b. a ++ b) (sym (hz .shows) ∙ ap (shown 10 2) (eqb-true z 0 ez) ∙ zeros)
+            (part-and-rest 3 8 11 cs refl ∙ ap (λ r. part 3 8 cs ++ r) (last-part 11 4 cs (sym n)))));
         fits = (omega (arith, ho .fits), omega (arith, ht .fits));
       }
 

@@ -73,11 +73,14 @@ module _ (cs : List Change) (l : Log) (area : List ℕ) (c : Change) (h : Holds 
   HoldsNow x = Holds cs′ (x .log) (x .area)
 
   -- there is room: the change is kept
-  keep : l .kept + 1 < R l → Holds cs′ (record { size = l .size; kept = l .kept + 1; lost = l .lost }) (place (l .kept) (changeRecord c) area)
-  keep lt =
+  keep : ltb (l .kept + 1) (R l) ≡ true → HoldsNow (addChange l area c)
+  unfolding addChange
+  keep e =
+      let lt : l .kept + 1 < R l = ltb-true (l .kept + 1) (R l) e in
       let few : length cs + 1 ≤ R l - 1 = omega (arith, h .keptIs) in
       let next : size * (l .kept + 1) ≡ size * (l .kept) + size = omega arith in
-      record {
+      rw (e, addChange)
+      (record {
         enough = h .enough;
         whole = length-place (l .kept) (changeRecord c) area (length-change c) fits ∙ h .whole;
         keptIs = omega (arith, more, h .keptIs);
@@ -92,28 +95,33 @@ module _ (cs : List Change) (l : Log) (area : List ℕ) (c : Change) (h : Holds 
               records-snoc,
             );
         gap = λ le. absurd (omega (arith, more));
-      }
+      })
 
   -- there is none: it is lost, and the gap tells
-  lose : R l ≤ l .kept + 1 → Holds cs′ (record { size = l .size; kept = l .kept; lost = oneMoreLost (l .lost) }) (place (l .kept) (gapRecord (c .tick) (oneMoreLost (l .lost))) area)
-  lose le =
+  lose : ltb (l .kept + 1) (R l) ≡ false → HoldsNow (addChange l area c)
+  unfolding addChange
+  lose e =
+      let le : R l ≤ l .kept + 1 = ltb-false (l .kept + 1) (R l) e in
       let many : R l - 1 ≤ length cs = omega (arith, h .keptIs) in
-      let whole = length-gap (c .tick) (oneMoreLost (l .lost)) in
-      record {
+      let lost = oneMoreLost (l .lost) in
+      let whole = length-gap (c .tick) lost in
+      rw (e, addChange)
+      (record {
         enough = h .enough;
-        whole = length-place (l .kept) _ area whole fits ∙ h .whole;
+        whole = length-place (l .kept) (gapRecord (c .tick) lost) area whole fits ∙ h .whole;
         keptIs = omega (arith, more, h .keptIs);
         lostIs = omega (arith, more, h .lostIs, one-more-is (l .lost) (omega (arith, h .lostIs)));
-        first = rw (place-before (l .kept) _ area whole fits, take-append-le, h .first);
-        gap = λ _. rw (place-at (l .kept) _ area whole fits, h .first, take-append-le, last-snoc);
-      }
+        first = rw (place-before (l .kept) (gapRecord (c .tick) lost) area whole fits, take-append-le, h .first);
+        gap = λ _. rw (place-at (l .kept) (gapRecord (c .tick) lost) area whole fits, h .first, take-append-le, last-snoc);
+      })
 
   -- One change more: the log then holds the longer list.
   pub holds-more : HoldsNow (addChange l area c)
-  unfolding addChange
-  holds-more =
-      if-case HoldsNow (ltb (l .kept + 1) (R l))
-      (λ e. keep (ltb-true (l .kept + 1) (R l) e)) (λ e. lose (ltb-false (l .kept + 1) (R l) e))
+  holds-more = go (ltb (l .kept + 1) (R l)) refl
+    where
+      go : (t : Bool) → ltb (l .kept + 1) (R l) ≡ t → HoldsNow (addChange l area c)
+      go true e = keep e
+      go false e = lose e
 
 -- What a log holds is told by its records: the paper's sentence.
 pub records-tell : (cs : List Change) (l : Log) (area : List ℕ) → Holds cs l area → records l area ≡ history (R l) cs

@@ -111,7 +111,7 @@ at-least-one n le = if-case (λ m. m ≤ 9999) (eqb n 0) (λ _. omega arith) (λ
 line-going : (p : List ℕ) (l : Line) (r : Run) → Ranged l → Going r → GoingStep (runLine p l r)
 unfolding runLine
 line-going p (State o t) r q g =
-    if-case GoingStep (eqb t 0) (λ _. ends-going 11 _ (outputs-going o r g)) (λ _. record { going = state-going o t r (q .range) g })
+    if-case GoingStep (eqb t 0) (λ _. ends-going 11 _ (outputs-going _ r g)) (λ _. record { going = state-going _ t r (q .range) g })
 line-going p (For c n) r q g =
     if-case GoingStep (busy r c) (λ _. ends-going 6 r g) λ _.
     if-case GoingStep (eqb (nextAfter p c (r .line)) 200) (λ _. ends-going 7 r g) λ e.

@@ -85,8 +85,8 @@ runLine p (For c count) r =
 runLine p (Next c) r =
     if not (busy r c) then ends 8 r
     else let left = counter r c .count - 1 in let loop = counter r c .line in
-      if ltb 0 left then goesTo (loop + 1) (withCounter c (record { count = left; line = loop }) r)
-      else onward (withCounter c free r)
+    if ltb 0 left then goesTo (loop + 1) (withCounter c (record { count = left; line = loop }) r)
+    else onward (withCounter c free r)
 
 -- ---- the lines that fall due in one call
 

@@ -1,0 +1,31 @@
+-- An error reply changes nothing but the emptied collection.
+-- Assumes nothing.
+use mathlib.Core.Path.{_≡_, refl, _∙_}
+use Prim.Native.Nat.{ℕ}
+use mathlib.Core.List.{List}
+use lib.ListN.{length}
+use borrow.Author.Tests.{eq-eqb}
+use Rattle.formats.specs.Checks.{Res, refused}
+use Rattle.formats.specs.Digits.{errorText}
+use Rattle.wire.specs.Collecting.{cleared}
+use Rattle.controller.specs.declared.Controller.{Controller}
+use Rattle.controller.specs.Controller.{withWire, withOut, Areas}
+use Rattle.controller.specs.Deeds.{over, ended, asked, answer, writing}
+use Rattle.controller.specs.Deeds as Deeds
+use Rattle.controller.specs.Refusals.{byte}
+use Rattle.controller.specs.Calls.{After, does, logged, call}
+use Rattle.controller.proofs.Refusals.{accepted-call}
+
+-- what an error reply leaves: the collection is empty, and the reply stands at the start of its area
+abbrev pub afterError : ℕ → Controller → Areas → After
+afterError e c a = record {
+  answer = record { state = withWire (cleared (c .wire)) c; refusal = 0; lines = 0; written = length (ended (errorText e)) };
+  areas = withOut (over (ended (errorText e)) (a .out)) a;
+}
+
+-- An error reply changes nothing but the emptied collection.
+pub error-changes-nothing : (c : Controller) (a : Areas) (e : ℕ) → call (byte 13) c a .answer .refusal ≡ 0 → asked c ≡ refused e
+    → call (byte 13) c a ≡ afterError e c a
+unfolding does Deeds.byte answer writing logged
+error-changes-nothing c a e ok err =
+    accepted-call (byte 13) c a ok .1 ∙ rw (err, eq-eqb (c .run .outputs) (c .run .outputs) refl)
