@@ -7,10 +7,9 @@ use lib.ListN.{length}
 use borrow.Author.Tests.{eq-eqb}
 use Rattle.formats.specs.Checks.{Res, refused}
 use Rattle.formats.specs.Digits.{errorText}
-use Rattle.wire.specs.Collecting.{cleared}
 use Rattle.controller.specs.declared.Controller.{Controller}
-use Rattle.controller.specs.Controller.{withWire, withOut, Areas}
-use Rattle.controller.specs.Deeds.{over, ended, asked, answer, writing}
+use Rattle.controller.specs.Controller.{withOut, Areas}
+use Rattle.controller.specs.Deeds.{over, ended, emptyCollection, asked, answer, writing}
 use Rattle.controller.specs.Deeds as Deeds
 use Rattle.controller.specs.Refusals.{byte}
 use Rattle.controller.specs.Calls.{After, does, logged, call}
@@ -19,7 +18,7 @@ use Rattle.controller.proofs.Refusals.{accepted-call}
 -- what an error reply leaves: the collection is empty, and the reply stands at the start of its area
 abbrev pub afterError : ℕ → Controller → Areas → After
 afterError e c a = record {
-  answer = record { state = withWire (cleared (c .wire)) c; refusal = 0; lines = 0; written = length (ended (errorText e)) };
+  answer = record { state = emptyCollection c; refusal = 0; lines = 0; written = length (ended (errorText e)) };
   areas = withOut (over (ended (errorText e)) (a .out)) a;
 }
 

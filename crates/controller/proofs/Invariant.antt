@@ -26,22 +26,23 @@ use Rattle.log.proofs.Histories.{emptied-kept, change-kept}
 use Rattle.wire.specs.declared.Wire.{Wire}
 use Rattle.wire.specs.declared.Special.{Special}
 use Rattle.wire.specs.declared.Special.the-variants.{Stop, Pause, Start, Continue, StartAt, Execute, Load, Save}
-use Rattle.wire.specs.declared.Deed.{Deed}
-use Rattle.wire.specs.declared.Deed.the-variants.{Read, PutLine, PutOutputs, PutParameter, Command}
+use Rattle.wire.specs.declared.Data.{Data}
+use Rattle.wire.specs.declared.Data.the-variants.{WriteLine, WriteOutputs, WriteParameter, WriteSpecial}
 use Rattle.wire.specs.declared.Asked.{Asked}
+use Rattle.wire.specs.declared.Asked.the-variants.{Read, Write}
 use Rattle.wire.specs.Collecting.{collect, cleared}
 use Rattle.wire.specs.Special.{modeOf, allowed, codeOf, inReach}
 use Rattle.wire.specs.Command.{command}
 use Rattle.wire.specs.Invariant.{WireInvariant}
 use Rattle.wire.proofs.Collecting.{collect-kept, cleared-kept}
-use Rattle.wire.proofs.Commands.{asked-inside, Permitted, PermittedDeed, asked-permitted}
+use Rattle.wire.proofs.Commands.{Permitted, DataSound, Sound, asked-sound}
 use Rattle.controller.specs.declared.Controller.{Controller}
 use Rattle.controller.specs.Controller.{withRun, withPaused, withTicks, withWire, withSingle, withParameter, withSpecial, withEvent, mode, Areas, fresh}
-use Rattle.controller.specs.Deeds.{Did, raise, moved, startAt, halt, execute, special, deed, lastMoved, writing, answer, ticked, pressed}
+use Rattle.controller.specs.Deeds.{Did, raise, moved, startAt, stop, execute, special, read, write, readTo, wroteTo, writing, emptyCollection, asked, answer, ticked, pressed, emptyLog, powerUp}
 use Rattle.controller.specs.Variables.{lineOf}
 use Rattle.controller.specs.Deeds as Deeds
 use Rattle.controller.specs.Refusals.{Call, powerOn, byte, tick as tickCall, press, emptying, check}
-use Rattle.controller.specs.Calls.{does, given, changes, changeOf, logFor, logged, After, settled, call}
+use Rattle.controller.specs.Calls.{does, given, changes, changeOf, logged, After, settled, call}
 use Rattle.controller.specs.Invariant.{Invariant}
 
 -- the state of what was done keeps it; the log is looked at apart
@@ -70,9 +71,9 @@ with-outputs o c i =
     let r = i .run in
     with-run _ c (record { lineInProgram = r .lineInProgram; forLine = r .forLine; count = r .count; time = r .time; idle = λ e. ap (withOutputs o) (r .idle e) }) (i .pausedRuns) i
 
-halted : (c : Controller) → Invariant c → Invariant (halt c)
-unfolding halt
-halted c i =
+stopped-invariant : (c : Controller) → Invariant c → Invariant (stop c)
+unfolding stop
+stopped-invariant c i =
     record {
       run = stopped-kept (c .run) (i .run .lineInProgram);
       wire = i .wire;
@@ -124,7 +125,7 @@ executed (Next n) c i = i
 
 special-keeps : (s : Special) (c : Controller) (a : Areas) → Permitted (mode c) (c .panel .parameter) s → Invariant c → Keeps (special s c a)
 unfolding special
-special-keeps Stop c a p i = record { kept = halted c i }
+special-keeps Stop c a p i = record { kept = stopped-invariant c i }
 special-keeps Pause c a p i = record { kept = with-paused true c (λ _. pause-runs (c .run .on) (c .paused) (p .may)) i }
 special-keeps Start c a p i = start-keeps c a i 0 (omega arith) (start-stopped (c .run .on) (c .paused) (p .may))
 special-keeps Continue c a p i = record { kept = with-paused false c (λ e. absurd (true≢false (sym e))) i }
@@ -136,50 +137,50 @@ special-keeps Save c a p i = record { kept = i }
 
 -- ---- a wire byte
 
-read-keeps : (k : ℕ) (c : Controller) → Invariant c → Invariant (if eqb k 212 then withEvent 0 false c else c)
+read-keeps : (k : ℕ) (c : Controller) → Invariant c → Invariant (read k c)
 read-keeps k c i = if-case Invariant (eqb k 212) (λ _. with-event 0 false c i) (λ _. i)
 
 with-special : (n : ℕ) (c : Controller) → Invariant c → Invariant (withSpecial n c)
 with-special n c i = record { run = i .run; wire = i .wire; log = i .log; pausedRuns = i .pausedRuns; single = i .single }
 
-deed-keeps : (d : Deed) (k : ℕ) (c : Controller) (a : Areas) → PermittedDeed (mode c) (c .panel .parameter) d → Invariant c → Keeps (deed d k c a)
-unfolding deed
-deed-keeps Read k c a p i = record { kept = read-keeps k c i }
-deed-keeps (PutLine l) k c a p i =
+write-keeps : (k : ℕ) (x : Data) (c : Controller) (a : Areas) → DataSound (mode c) (c .panel .parameter) k x → Invariant c → Keeps (write k x c a)
+unfolding write
+write-keeps k (WriteLine l) c a p i =
     if-case Keeps (eqb k 200)
     (λ _. record { kept = record { run = i .run; wire = i .wire; log = i .log; pausedRuns = i .pausedRuns; single = length-bytes l } })
     (λ _. record { kept = i })
-deed-keeps (PutOutputs x) k c a p i = record { kept = with-outputs _ c i }
-deed-keeps (PutParameter v) k c a p i =
+write-keeps k (WriteOutputs x) c a p i = record { kept = with-outputs _ c i }
+write-keeps k (WriteParameter v) c a p i =
     record { kept = record { run = i .run; wire = i .wire; log = i .log; pausedRuns = i .pausedRuns; single = i .single } }
-deed-keeps (Command s) k c a p i =
+write-keeps k (WriteSpecial s) c a p i =
     special-keeps s (withSpecial (codeOf s) c) a (record { may = p .may; reaches = p .reaches }) (with-special (codeOf s) c i)
 
-last-kept : (d : Deed) (k : ℕ) (w : Wire) → k ≤ 216 → WireInvariant w → WireInvariant (lastMoved d k w)
-last-kept Read k w le i = record { whole = i .whole; fits = i .fits; lastRead = le; lastWrite = i .lastWrite }
-last-kept (PutLine l) k w le i = record { whole = i .whole; fits = i .fits; lastRead = i .lastRead; lastWrite = le }
-last-kept (PutOutputs x) k w le i = record { whole = i .whole; fits = i .fits; lastRead = i .lastRead; lastWrite = le }
-last-kept (PutParameter v) k w le i = record { whole = i .whole; fits = i .fits; lastRead = i .lastRead; lastWrite = le }
-last-kept (Command s) k w le i = record { whole = i .whole; fits = i .fits; lastRead = i .lastRead; lastWrite = le }
+empty-keeps : (c : Controller) → Invariant c → Invariant (emptyCollection c)
+empty-keeps c i = with-wire _ c (cleared-kept (c .wire) (i .wire)) i
+
+read-to-keeps : (k : ℕ) (c : Controller) → k ≤ 216 → Invariant c → Invariant (readTo k c)
+read-to-keeps k c le i =
+    with-wire _ c (record { whole = i .wire .whole; fits = i .wire .fits; nextRead = omega arith; nextWrite = i .wire .nextWrite }) i
+
+wrote-to-keeps : (k : ℕ) (c : Controller) → k ≤ 216 → Invariant c → Invariant (wroteTo k c)
+wrote-to-keeps k c le i =
+    with-wire _ c (record { whole = i .wire .whole; fits = i .wire .fits; nextRead = i .wire .nextRead; nextWrite = omega arith }) i
 
 writing-keeps : (bytes : List ℕ) (x : Did) → Keeps x → Keeps (writing bytes x)
 unfolding writing
 writing-keeps bytes x h = record { kept = h .kept }
 
-answer-keeps : (r : Res Asked) (c : Controller) (a : Areas) → Ok (λ (q : Asked). q .address ≤ 216) r
-    → Ok (λ (q : Asked). PermittedDeed (mode c) (c .panel .parameter) (q .deed)) r → Invariant c → Keeps (answer r c a)
+answer-keeps : (r : Res Asked) (c : Controller) (a : Areas) → Ok (Sound (mode c) (c .panel .parameter)) r → Invariant c → Keeps (answer r c a)
 unfolding answer
-answer-keeps (refused e) c a l p i = writing-keeps _ _ (record { kept = with-wire _ c (cleared-kept (c .wire) (i .wire)) i })
-answer-keeps (passed q) c a l p i =
-    writing-keeps _ _
-    (deed-keeps (q .deed) (q .address) _ a p
-    (with-wire _ c (cleared-kept _ (last-kept (q .deed) (q .address) (c .wire) l (i .wire))) i))
+answer-keeps (refused e) c a p i = writing-keeps _ _ (record { kept = empty-keeps c i })
+answer-keeps (passed (Read k)) c a p i = writing-keeps _ _ (record { kept = read-keeps k _ (read-to-keeps k _ p (empty-keeps c i)) })
+answer-keeps (passed (Write k x)) c a p i = writing-keeps _ _ (write-keeps k x _ a (p .1) (wrote-to-keeps k _ (p .0) (empty-keeps c i)))
 
 byte-keeps : (x : ℕ) (c : Controller) (a : Areas) → Invariant c → Keeps (Deeds.byte x c a)
 unfolding Deeds.byte
 byte-keeps x c a i =
     if-case Keeps (eqb x 13)
-    (λ _. answer-keeps _ c a (asked-inside (c .wire) (mode c) (c .panel .parameter) (i .wire)) (asked-permitted (mode c) (c .panel .parameter) (c .wire)) i)
+    (λ _. answer-keeps (asked c) c a (asked-sound (mode c) (c .panel .parameter) (c .wire) (i .wire)) i)
     (λ _. record { kept = with-wire _ c (collect-kept x (c .wire) (i .wire)) i })
 
 -- ---- a tick and a press
@@ -198,7 +199,7 @@ press-keeps : (n : ℕ) (c : Controller) (a : Areas) → Invariant c → Keeps (
 unfolding pressed
 press-keeps n c a i =
     if-case Keeps (eqb n 1)
-    (λ _. if-case Keeps (c .run .on) (λ _. record { kept = raised 10 _ (halted c i) }) (λ e. start-keeps c a i 0 (omega arith) e))
+    (λ _. if-case Keeps (c .run .on) (λ _. record { kept = raised 10 _ (stopped-invariant c i) }) (λ e. start-keeps c a i 0 (omega arith) e))
     (λ _. if-case Keeps (c .run .on) (λ e. record { kept = with-paused _ c (λ _. e) i }) (λ _. record { kept = i }))
 
 -- ---- the five calls
@@ -213,7 +214,7 @@ unfolding fresh
 fresh-invariant n =
     record {
       run = stopped-fresh;
-      wire = record { whole = refl; fits = omega arith; lastRead = omega arith; lastWrite = omega arith };
+      wire = record { whole = refl; fits = omega arith; nextRead = omega arith; nextWrite = omega arith };
       log = emptied-kept n;
       pausedRuns = λ e. absurd (true≢false (sym e));
       single = length-bytes endMark;
@@ -222,26 +223,25 @@ fresh-invariant n =
     stopped-fresh : RunInvariant (fresh n .run)
     stopped-fresh = rw (fresh-stopped n) at (stopped-kept (fresh n .run) (omega arith))
 
+empty-log-keeps : (c : Controller) (a : Areas) → Invariant c → Keeps (emptyLog c a)
+unfolding emptyLog
+empty-log-keeps c a i =
+    writing-keeps _ _
+    (record { kept = record { run = i .run; wire = i .wire; log = emptied-kept (c .log .length); pausedRuns = i .pausedRuns; single = i .single } })
+
 does-keeps : (k : Call) (c : Controller) (a : Areas) → Invariant c → Keeps (does k c a)
-unfolding does
+unfolding does powerUp
 does-keeps powerOn c a i = record { kept = fresh-invariant (length (a .log)) }
 does-keeps (byte x) c a i = byte-keeps x c a i
 does-keeps tickCall c a i = tick-keeps c a i
 does-keeps (press n) c a i = press-keeps n c a i
-does-keeps emptying c a i = writing-keeps _ _ (record { kept = i })
+does-keeps emptying c a i = empty-log-keeps c a i
 
-log-for-kept : (k : Call) (c : Controller) (a : Areas) → Invariant c → LogInvariant (logFor k c a)
-log-for-kept powerOn c a i = emptied-kept (length (a .log))
-log-for-kept (byte x) c a i = i .log
-log-for-kept tickCall c a i = i .log
-log-for-kept (press n) c a i = i .log
-log-for-kept emptying c a i = emptied-kept (c .log .size)
-
-logged-kept : (k : Call) (c : Controller) (a : Areas) (x : Did) → Invariant c → LogInvariant (logged k c a x .log)
+logged-kept : (k : Call) (c : Controller) (x : Did) → LogInvariant (x .state .log) → LogInvariant (logged k c x .log)
 unfolding logged
-logged-kept k c a x i =
-    let l = log-for-kept k c a i in
-    if-case (λ (g : Logged). LogInvariant (g .log)) (changes k c (x .state)) (λ _. change-kept (logFor k c a) (a .log) (changeOf k c (x .state)) l) (λ _. l)
+logged-kept k c x l =
+    if-case (λ (g : Logged). LogInvariant (g .log)) (changes k c (x .state))
+    (λ _. change-kept (x .state .log) (x .areas .log) (changeOf k c (x .state)) l) (λ _. l)
 
 given-invariant : (k : Call) (c : Controller) → Invariant c → Invariant (given k c)
 given-invariant powerOn c i = fresh-invariant 0
@@ -254,7 +254,7 @@ settled-invariant : (r : Res (Unit {0})) (k : Call) (c : Controller) (a : Areas)
 settled-invariant (refused n) k c a i = given-invariant k c i
 settled-invariant (passed ok) k c a i =
     let d = does-keeps k c a i .kept in
-    record { run = d .run; wire = d .wire; log = logged-kept k c a (does k c a) i; pausedRuns = d .pausedRuns; single = d .single }
+    record { run = d .run; wire = d .wire; log = logged-kept k c (does k c a) (d .log); pausedRuns = d .pausedRuns; single = d .single }
 
 -- Every call, accepted or refused, keeps the invariant.
 pub call-invariant : (k : Call) (c : Controller) (a : Areas) → Invariant c → Invariant (call k c a .answer .state)

@@ -19,18 +19,19 @@ use Rattle.wire.specs.declared.Wire.{Wire}
 use Rattle.wire.specs.declared.Mode as M
 use Rattle.wire.specs.declared.Special.{Special}
 use Rattle.wire.specs.declared.Special.the-variants.{Stop, Pause, Start, Continue, StartAt, Execute, Load, Save}
-use Rattle.wire.specs.declared.Deed.{Deed}
-use Rattle.wire.specs.declared.Deed.the-variants.{Read, PutLine, PutOutputs, PutParameter, Command}
+use Rattle.wire.specs.declared.Data.{Data}
+use Rattle.wire.specs.declared.Data.the-variants.{WriteLine, WriteOutputs, WriteParameter, WriteSpecial}
 use Rattle.wire.specs.declared.Asked.{Asked}
+use Rattle.wire.specs.declared.Asked.the-variants.{Read, Write}
 use Rattle.wire.specs.Special.{modeOf, codeOf}
-use Rattle.wire.proofs.Quiet.{quiet, quietSpecial, command-quiet}
+use Rattle.wire.proofs.Quiet.{quiet, quietData, quietSpecial, command-quiet}
 use Rattle.controller.specs.declared.Controller.{Controller}
 use Rattle.controller.specs.Controller.{withWire, withSpecial, withEvent, withTicks, mode, Areas}
-use Rattle.controller.specs.Deeds.{Did, did, raise, moved, startAt, special, deed, writing, asked, answer, ticked, pressed}
+use Rattle.controller.specs.Deeds.{Did, did, raise, moved, startAt, special, read, write, readTo, wroteTo, writing, emptyCollection, asked, answer, ticked, pressed, emptyLog}
 use Rattle.controller.specs.Deeds as Deeds
 use Rattle.controller.specs.Refusals.{Call, powerOn, byte, tick as tickCall, press, emptying}
 use Rattle.controller.specs.Calls.{does}
-use Rattle.controller.specs.Effects.{deedCode, askedCode, commandOf, isPress, startBy, startLine}
+use Rattle.controller.specs.Effects.{finished, dataCode, specialCode, isPress, startBy, startLine}
 
 -- ---- what leaves the run and the program as they were
 
@@ -54,22 +55,23 @@ special-same Execute c a q ne = absurd (true≢false (sym q))
 special-same Load c a q ne = absurd (true≢false (sym q))
 special-same Save c a q ne = absurd (true≢false (sym q))
 
-read-same : (t : Bool) (c : Controller) (a : Areas) → Same c a (did (if t then withEvent 0 false c else c) a)
-read-same true c a = record { run = refl; program = refl }
-read-same false c a = record { run = refl; program = refl }
+read-same : (t : Bool) (c : Controller) → (if t then withEvent 0 false c else c) .run ≡ c .run
+read-same true c = refl
+read-same false c = refl
 
-deed-same : (d : Deed) (k : ℕ) (c : Controller) (a : Areas) → quiet d ≡ true → deedCode d ≢ 1 → Same c a (deed d k c a)
-unfolding deed
-deed-same Read k c a q ne = read-same (eqb k 212) c a
-deed-same (PutLine l) k c a q ne = absurd (true≢false (sym q))
-deed-same (PutOutputs x) k c a q ne = absurd (true≢false (sym q))
-deed-same (PutParameter v) k c a q ne = record { run = refl; program = refl }
-deed-same (Command s) k c a q ne = let h = special-same s (withSpecial (codeOf s) c) a q ne in record { run = h .run; program = h .program }
+write-same : (k : ℕ) (x : Data) (c : Controller) (a : Areas) → quietData x ≡ true → dataCode x ≢ 1 → Same c a (write k x c a)
+unfolding write
+write-same k (WriteLine l) c a q ne = absurd (true≢false (sym q))
+write-same k (WriteOutputs x) c a q ne = absurd (true≢false (sym q))
+write-same k (WriteParameter v) c a q ne = record { run = refl; program = refl }
+write-same k (WriteSpecial s) c a q ne = let h = special-same s (withSpecial (codeOf s) c) a q ne in record { run = h .run; program = h .program }
 
-answer-same : (r : Res Asked) (c : Controller) (a : Areas) → Ok (λ (q : Asked). quiet (q .deed) ≡ true) r → askedCode r ≢ 1 → Same c a (answer r c a)
+answer-same : (r : Res Asked) (c : Controller) (a : Areas) → Ok (λ (q : Asked). quiet q ≡ true) r → specialCode r ≢ 1 → Same c a (answer r c a)
 unfolding answer
 answer-same (refused e) c a q ne = written-same _ _ (record { run = refl; program = refl })
-answer-same (passed s) c a q ne = written-same _ _ (let h = deed-same (s .deed) (s .address) _ a q ne in record { run = h .run; program = h .program })
+answer-same (passed (Read k)) c a q ne = written-same _ _ (record { run = read-same (eqb k 212) (readTo k (emptyCollection c)); program = refl })
+answer-same (passed (Write k x)) c a q ne =
+    written-same _ _ (let h = write-same k x (wroteTo k (emptyCollection c)) a q ne in record { run = h .run; program = h .program })
 
 runs-mode : (c : Controller) → c .run .on ≡ true → mode c ≢ M.the-variants.Stop
 runs-mode c on = go (c .run .on) (c .paused) on
@@ -79,12 +81,12 @@ runs-mode c on = go (c .run .on) (c .paused) on
     go true false e z = let n : _≡_ {A = ℕ} 0 2 = cc in omega arith
     go false paused e z = absurd (true≢false (sym e))
 
-pub byte-same : (x : ℕ) (c : Controller) (a : Areas) → c .run .on ≡ true → commandOf (byte x) c ≢ 1 → Same c a (Deeds.byte x c a)
-unfolding Deeds.byte commandOf
+pub byte-same : (x : ℕ) (c : Controller) (a : Areas) → c .run .on ≡ true → specialCode (finished (byte x) c) ≢ 1 → Same c a (Deeds.byte x c a)
+unfolding Deeds.byte finished
 byte-same x c a on ne = go (eqb x 13) refl
   where
     go : (t : Bool) → eqb x 13 ≡ t → Same c a (Deeds.byte x c a)
-    go true e = rw (e, Deeds.byte) (answer-same (asked c) c a (command-quiet (mode c) (c .panel .parameter) (runs-mode c on) (c .wire)) (rw (e, commandOf) at ne))
+    go true e = rw (e, Deeds.byte) (answer-same (asked c) c a (command-quiet (mode c) (c .panel .parameter) (runs-mode c on) (c .wire)) (rw e at ne))
     go false e = rw (e, Deeds.byte) (record { run = refl; program = refl })
 
 -- a tick that is taken while paused
@@ -99,7 +101,7 @@ unfolding pressed
 press-same n c a on e = rw (e, on) (record { run = refl; program = refl })
 
 pub emptying-same : (c : Controller) (a : Areas) → Same c a (does emptying c a)
-unfolding does
+unfolding does emptyLog
 emptying-same c a = written-same _ _ (record { run = refl; program = refl })
 
 -- ---- what moves the run
@@ -146,31 +148,33 @@ special-as Execute k c a e = absurd (not-some e)
 special-as Load k c a e = absurd (not-some e)
 special-as Save k c a e = absurd (not-some e)
 
-deed-as : (d : Deed) (j k : ℕ) (w : Wire) (c : Controller) (a : Areas) → startBy (deedCode d) (c .panel .parameter) ≡ some k
-    → MovedAs (start (a .program) k (c .run .outputs)) c (a .program) (deed d j (withWire w c) a)
-unfolding deed
-deed-as Read j k w c a e = absurd (not-some e)
-deed-as (PutLine l) j k w c a e = absurd (not-some e)
-deed-as (PutOutputs x) j k w c a e = absurd (not-some e)
-deed-as (PutParameter v) j k w c a e = absurd (not-some e)
-deed-as (Command s) j k w c a e =
-    let h = special-as s k (withSpecial (codeOf s) (withWire w c)) a e in
+write-as : (j : ℕ) (x : Data) (k : ℕ) (c : Controller) (a : Areas) → startBy (dataCode x) (c .panel .parameter) ≡ some k
+    → MovedAs (start (a .program) k (c .run .outputs)) c (a .program) (write j x c a)
+unfolding write
+write-as j (WriteLine l) k c a e = absurd (not-some e)
+write-as j (WriteOutputs x) k c a e = absurd (not-some e)
+write-as j (WriteParameter v) k c a e = absurd (not-some e)
+write-as j (WriteSpecial s) k c a e =
+    let h = special-as s k (withSpecial (codeOf s) c) a e in
     record { run = h .run; program = h .program; event = h .event; silent = h .silent; lines = h .lines }
 
-answer-as : (r : Res Asked) (k : ℕ) (c : Controller) (a : Areas) → startBy (askedCode r) (c .panel .parameter) ≡ some k
+answer-as : (r : Res Asked) (k : ℕ) (c : Controller) (a : Areas) → startBy (specialCode r) (c .panel .parameter) ≡ some k
     → MovedAs (start (a .program) k (c .run .outputs)) c (a .program) (answer r c a)
 unfolding answer
 answer-as (refused n) k c a e = absurd (not-some e)
-answer-as (passed q) k c a e = writing-as _ _ (deed-as (q .deed) (q .address) k _ c a e)
+answer-as (passed (Read j)) k c a e = absurd (not-some e)
+answer-as (passed (Write j x)) k c a e =
+    let h = write-as j x k (wroteTo j (emptyCollection c)) a e in
+    writing-as _ _ (record { run = h .run; program = h .program; event = h .event; silent = h .silent; lines = h .lines })
 
-byte-as : (x k : ℕ) (c : Controller) (a : Areas) → startBy (commandOf (byte x) c) (c .panel .parameter) ≡ some k
+byte-as : (x k : ℕ) (c : Controller) (a : Areas) → startBy (specialCode (finished (byte x) c)) (c .panel .parameter) ≡ some k
     → MovedAs (start (a .program) k (c .run .outputs)) c (a .program) (Deeds.byte x c a)
-unfolding Deeds.byte commandOf
+unfolding Deeds.byte finished
 byte-as x k c a e = go (eqb x 13) refl
   where
     go : (t : Bool) → eqb x 13 ≡ t → MovedAs (start (a .program) k (c .run .outputs)) c (a .program) (Deeds.byte x c a)
-    go true f = rw (f, Deeds.byte) (answer-as (asked c) k c a (rw (f, commandOf) at e))
-    go false f = absurd (not-some (rw (f, commandOf) at e))
+    go true f = rw (f, Deeds.byte) (answer-as (asked c) k c a (rw f at e))
+    go false f = absurd (not-some (rw f at e))
 
 second-of-four : {A : Type 0} (t u : Bool) (x y z w : A) → t ≡ true → u ≡ false → (if t then (if u then x else y) else (if u then z else w)) ≡ y
 second-of-four true true x y z w e f = absurd (true≢false f)
@@ -191,7 +195,7 @@ press-as n k c a = go (eqb n 1) (c .run .on) refl refl
 -- An accepted start, by command 003 or 005 or by the button, moves the run as the rules' start does.
 pub does-start : (k : Call) (j : ℕ) (c : Controller) (a : Areas) → startLine k c ≡ some j
     → MovedAs (start (a .program) j (c .run .outputs)) c (a .program) (does k c a)
-unfolding does startLine commandOf
+unfolding does startLine finished
 does-start powerOn j c a e = absurd (not-some e)
 does-start (byte x) j c a e = byte-as x j c a e
 does-start tickCall j c a e = absurd (not-some e)

@@ -4,14 +4,20 @@ use mathlib.Core.Path.{_≡_, refl, sym, ap, _∙_}
 use mathlib.Core.Logic.{_≢_}
 use Prim.Native.Nat.{ℕ, _≤_}
 use native.Mathlib.Omega.{arith}
-use mathlib.Core.Bool.{Bool, true, false}
+use mathlib.Core.Bool.{Bool, true, false, _&&_, true≢false}
 use mathlib.Core.List.{List}
+use lib.ListN.{length}
+use lib.Dec.{leb, eqb}
+use borrow.Author.Tests.{leb-true, eqb-true}
 use Rattle.formats.specs.Checks.{Res, refused, passed, _>>_, _orElse_}
-use Rattle.formats.proofs.Checks.{Ok, ok-guard}
+use Rattle.formats.proofs.Checks.{Ok, ok-guard, both-true}
+use Rattle.log.specs.Record.{leastArea, mostArea}
+use Rattle.log.specs.Log.{emptied}
 use Rattle.controller.specs.declared.Controller.{Controller}
 use Rattle.controller.specs.declared.Answer.{Answer}
-use Rattle.controller.specs.Controller.{Areas}
-use Rattle.controller.specs.Refusals.{Call, ok030, ok031, ok032, ok033, ok034, ok035, check}
+use Rattle.controller.specs.Controller.{Areas, fresh}
+use Rattle.controller.specs.Refusals.{Call, powerOn, byte, tick, press, emptying, isProgram, isLog, isSameLog, isReply, mayTick, isButton, isDestination, check}
+use Rattle.controller.specs.Effects.{isPowerOn}
 use Rattle.controller.specs.Calls.{does, given, logged, After, accepted, settled, call}
 
 -- ---- the numbers
@@ -36,44 +42,83 @@ Numbered n = (30 ≤ n) × (n ≤ 35)
 
 numbers : (k : Call) (c : Controller) (a : Areas) → Refuses Numbered (check k c a)
 unfolding check
-numbers k c a =
-    refuses-guard Numbered (ok030 k a) 30 _ (omega arith)
-    (refuses-guard Numbered (ok031 k c a) 31 _ (omega arith)
-    (refuses-guard Numbered (ok032 k a) 32 _ (omega arith)
-    (refuses-guard Numbered (ok033 k c) 33 _ (omega arith)
-    (refuses-guard Numbered (ok034 k) 34 _ (omega arith)
-    (refuses-last Numbered (ok035 k c a) 35 (omega arith))))))
+numbers powerOn c a =
+    refuses-guard Numbered (isProgram (a .program) && isProgram (a .saved)) 30 _ (omega arith) (refuses-last Numbered (isLog (a .log)) 31 (omega arith))
+numbers (byte x) c a =
+    refuses-guard Numbered (isProgram (a .program) && isProgram (a .saved)) 30 _ (omega arith)
+    (refuses-guard Numbered (isSameLog c (a .log)) 31 _ (omega arith) (refuses-last Numbered (isReply (a .out)) 32 (omega arith)))
+numbers tick c a =
+    refuses-guard Numbered (isProgram (a .program)) 30 _ (omega arith)
+    (refuses-guard Numbered (isSameLog c (a .log)) 31 _ (omega arith) (refuses-last Numbered (mayTick c) 33 (omega arith)))
+numbers (press n) c a =
+    refuses-guard Numbered (isProgram (a .program)) 30 _ (omega arith)
+    (refuses-guard Numbered (isSameLog c (a .log)) 31 _ (omega arith) (refuses-last Numbered (isButton n) 34 (omega arith)))
+numbers emptying c a =
+    refuses-guard Numbered (isSameLog c (a .log)) 31 _ (omega arith) (refuses-last Numbered (isDestination c (a .out)) 35 (omega arith))
 
 -- ---- an accepted call
 
--- it passes every line of the table
+-- what the table asks of each call
+abbrev pub Checks : Call → Controller → Areas → Type 0
+Checks powerOn c a = ((isProgram (a .program) && isProgram (a .saved)) ≡ true) × (isLog (a .log) ≡ true)
+Checks (byte x) c a = ((isProgram (a .program) && isProgram (a .saved)) ≡ true) × (isSameLog c (a .log) ≡ true) × (isReply (a .out) ≡ true)
+Checks tick c a = (isProgram (a .program) ≡ true) × (isSameLog c (a .log) ≡ true) × (mayTick c ≡ true)
+Checks (press n) c a = (isProgram (a .program) ≡ true) × (isSameLog c (a .log) ≡ true) × (isButton n ≡ true)
+Checks emptying c a = (isSameLog c (a .log) ≡ true) × (isDestination c (a .out) ≡ true)
+
 pub record Checked (k : Call) (c : Controller) (a : Areas) : Type 0 where
-  pub passed030 : ok030 k a ≡ true
-  pub passed031 : ok031 k c a ≡ true
-  pub passed032 : ok032 k a ≡ true
-  pub passed033 : ok033 k c ≡ true
-  pub passed034 : ok034 k ≡ true
-  pub passed035 : ok035 k c a ≡ true
+  pub checks : Checks k c a
 
 ok-last : (P : Unit {0} → Type 0) (t : Bool) (e : ℕ) → (t ≡ true → P tt) → Ok P (t orElse e)
 unfolding _orElse_
 ok-last P true e f = f refl
 ok-last P false e f = tt
 
-checked : (k : Call) (c : Controller) (a : Areas) → Ok (λ (u : Unit {0}). Checked k c a) (check k c a)
+abbrev Pass : Call → Controller → Areas → Unit {0} → Type 0
+Pass k c a ok = Checked k c a
+
+checked : (k : Call) (c : Controller) (a : Areas) → Ok (Pass k c a) (check k c a)
 unfolding check
-checked k c a =
-    let P : Unit {0} → Type 0 = λ u. Checked k c a in
-    ok-guard P (ok030 k a) 30 _ λ e0. ok-guard P (ok031 k c a) 31 _ λ e1. ok-guard P (ok032 k a) 32 _ λ e2.
-    ok-guard P (ok033 k c) 33 _ λ e3. ok-guard P (ok034 k) 34 _ λ e4. ok-last P (ok035 k c a) 35 λ e5.
-    record { passed030 = e0; passed031 = e1; passed032 = e2; passed033 = e3; passed034 = e4; passed035 = e5 }
+checked powerOn c a =
+    ok-guard (Pass powerOn c a) (isProgram (a .program) && isProgram (a .saved)) 30 _ λ e.
+    ok-last (Pass powerOn c a) (isLog (a .log)) 31 λ f. record { checks = (e, f) }
+checked (byte x) c a =
+    ok-guard (Pass (byte x) c a) (isProgram (a .program) && isProgram (a .saved)) 30 _ λ e.
+    ok-guard (Pass (byte x) c a) (isSameLog c (a .log)) 31 _ λ f. ok-last (Pass (byte x) c a) (isReply (a .out)) 32 λ g. record { checks = (e, f, g) }
+checked tick c a =
+    ok-guard (Pass tick c a) (isProgram (a .program)) 30 _ λ e.
+    ok-guard (Pass tick c a) (isSameLog c (a .log)) 31 _ λ f. ok-last (Pass tick c a) (mayTick c) 33 λ g. record { checks = (e, f, g) }
+checked (press n) c a =
+    ok-guard (Pass (press n) c a) (isProgram (a .program)) 30 _ λ e.
+    ok-guard (Pass (press n) c a) (isSameLog c (a .log)) 31 _ λ f. ok-last (Pass (press n) c a) (isButton n) 34 λ g. record { checks = (e, f, g) }
+checked emptying c a =
+    ok-guard (Pass emptying c a) (isSameLog c (a .log)) 31 _ λ e.
+    ok-last (Pass emptying c a) (isDestination c (a .out)) 35 λ f. record { checks = (e, f) }
+
+-- every call but power-on is held to the length of the log given at power-on
+pub checked-log : (k : Call) (c : Controller) (a : Areas) → isPowerOn k ≡ false → Checked k c a → isSameLog c (a .log) ≡ true
+checked-log powerOn c a e h = absurd (true≢false e)
+checked-log (byte x) c a e h = h .checks .1
+checked-log tick c a e h = h .checks .1
+checked-log (press n) c a e h = h .checks .1
+checked-log emptying c a e h = h .checks .0
+
+-- such an area is long enough
+pub log-long : (c : Controller) (area : List ℕ) → isSameLog c area ≡ true → (leastArea ≤ c .log .length) × (length area ≡ c .log .length)
+log-long c area e =
+    let p = both-true (isLog area) (eqb (length area) (c .log .length)) e in
+    let q = both-true (leb leastArea (length area)) (leb (length area) mostArea) (p .0) in
+    let same = eqb-true (length area) (c .log .length) (p .1) in
+    (omega (arith, leb-true leastArea (length area) (q .0)), same)
+
+-- ---- accepted or refused
 
 abbrev pub refusedWith : ℕ → Call → Controller → Areas → After
 refusedWith n k c a = record { answer = record { state = given k c; refusal = n; lines = 0; written = 0 }; areas = a }
 
 -- a call is one or the other
 pub data Settled (k : Call) (c : Controller) (a : Areas) : Type 0 where
-  taken : Checked k c a → call k c a ≡ accepted (does k c a) (logged k c a (does k c a)) → Settled k c a
+  taken : Checked k c a → call k c a ≡ accepted (does k c a) (logged k c (does k c a)) → Settled k c a
   refusal : (n : ℕ) → 30 ≤ n → n ≤ 35 → call k c a ≡ refusedWith n k c a → Settled k c a
 
 -- Every call, whatever it is lent, is accepted or refused with one of the numbers 030 to 035.
@@ -81,16 +126,16 @@ pub every-call-settled : (k : Call) (c : Controller) (a : Areas) → Settled k c
 unfolding call
 every-call-settled k c a = go (check k c a) refl (numbers k c a) (checked k c a)
   where
-    go : (r : Res (Unit {0})) → check k c a ≡ r → Refuses Numbered r → Ok (λ (u : Unit {0}). Checked k c a) r → Settled k c a
+    go : (r : Res (Unit {0})) → check k c a ≡ r → Refuses Numbered r → Ok (Pass k c a) r → Settled k c a
     go (refused n) e b h = refusal n (b .0) (b .1) (ap (λ r. settled r k c a) e)
     go (passed ok) e b h = taken h (ap (λ r. settled r k c a) e)
 
 -- a call whose answer shows no refusal was accepted
 pub accepted-call : (k : Call) (c : Controller) (a : Areas) → call k c a .answer .refusal ≡ 0
-    → Checked k c a × (call k c a ≡ accepted (does k c a) (logged k c a (does k c a)))
+    → Checked k c a × (call k c a ≡ accepted (does k c a) (logged k c (does k c a)))
 accepted-call k c a z = go (every-call-settled k c a)
   where
-    go : Settled k c a → Checked k c a × (call k c a ≡ accepted (does k c a) (logged k c a (does k c a)))
+    go : Settled k c a → Checked k c a × (call k c a ≡ accepted (does k c a) (logged k c (does k c a)))
     go (taken h e) = (h, e)
     go (refusal n lo hi e) = absurd (let r : n ≡ 0 = ap (λ (x : After). x .answer .refusal) (sym e) ∙ z in omega arith)
 
@@ -102,3 +147,9 @@ refused-call k c a ne = go (every-call-settled k c a)
     go : Settled k c a → call k c a ≡ refusedWith (call k c a .answer .refusal) k c a
     go (taken h e) = absurd (ne (ap (λ (x : After). x .answer .refusal) e))
     go (refusal n lo hi e) = e ∙ ap (λ m. refusedWith m k c a) (ap (λ (x : After). x .answer .refusal) (sym e))
+
+-- A refused power-on's state has a log length of 0, "so every later call on it is refused".
+pub unpowered-refuses : (k : Call) (c : Controller) (a : Areas) → isPowerOn k ≡ false → c .log .length ≡ 0 → call k c a .answer .refusal ≢ 0
+unpowered-refuses k c a other none ok =
+    let h = log-long c (a .log) (checked-log k c a other (accepted-call k c a ok .0)) in
+    omega (arith, h .0)

@@ -1,35 +1,27 @@
 -- The five calls: checked, done, logged, answered.
-use Prim.Native.Nat.{ℕ, zero}
-use mathlib.Core.Bool.{Bool, true, false, not}
-use mathlib.Core.List.{List, []}
-use lib.ListN.{length}
+use Prim.Native.Nat.{ℕ}
+use mathlib.Core.Bool.{Bool, not}
 use lib.Dec.{eqb}
 use Rattle.formats.specs.Checks.{if_then_else_, Res, refused, passed}
-use Rattle.lines.specs.Program.{cleaned}
 use Rattle.log.specs.declared.Change.{Change}
-use Rattle.log.specs.declared.Log.{Log}
-use Rattle.log.specs.Log.{Logged, addChange, records, emptied}
-use Rattle.wire.specs.declared.Deed.{Deed}
-use Rattle.wire.specs.declared.Deed.the-variants.{Read, PutLine, PutOutputs, PutParameter, Command}
+use Rattle.log.specs.Log.{Logged, addChange}
 use Rattle.wire.specs.declared.Asked.{Asked}
-use Rattle.wire.specs.Special.{codeOf}
 use Rattle.controller.specs.declared.Controller.{Controller}
 use Rattle.controller.specs.declared.Answer.{Answer}
-use Rattle.controller.specs.Controller.{withLog, Areas, withProgram, withLogArea, fresh}
-use Rattle.controller.specs.Deeds.{Did, did, writing, asked}
+use Rattle.controller.specs.Controller.{withLog, Areas, withLogArea, fresh}
+use Rattle.controller.specs.Deeds.{Did, ticked, pressed, emptyLog, powerUp}
 use Rattle.controller.specs.Deeds as Deeds
 use Rattle.controller.specs.Refusals.{Call, powerOn, byte, tick, press, emptying, check}
+use Rattle.controller.specs.Effects.{finished, writesOutputs, specialCode}
 
 -- ---- done
 
--- 01, 'Variables': "Power-on [...] load the saved copy in that cleaned form". 'The log', of emptying: it "copies the records
--- held, in order, to the start of the destination, leaves its rest, returns their byte count".
 unfoldable pub does : Call → Controller → Areas → Did
-does powerOn c a = did (fresh (length (a .log))) (withProgram (cleaned (a .saved)) a)
+does powerOn c a = powerUp a
 does (byte x) c a = Deeds.byte x c a
-does tick c a = Deeds.ticked c a
-does (press n) c a = Deeds.pressed n c a
-does emptying c a = writing (records (c .log) (a .log)) (did c a)
+does tick c a = ticked c a
+does (press n) c a = pressed n c a
+does emptying c a = emptyLog c a
 
 -- ---- logged
 
@@ -46,42 +38,19 @@ abbrev pub changes : Call → Controller → Controller → Bool
 changes k before after = not (eqb (given k before .run .outputs) (after .run .outputs))
 
 -- "cause is the line, 254 for command 006, 255 for a write to 203-206"
-abbrev pub deedCause : Deed → ℕ → ℕ
-deedCause Read line = line
-deedCause (PutLine l) line = line
-deedCause (PutOutputs x) line = 255
-deedCause (PutParameter v) line = line
-deedCause (Command s) line = if eqb (codeOf s) 6 then 254 else line
-
-abbrev pub askedCause : Res Asked → ℕ → ℕ
-askedCause (refused e) line = line
-askedCause (passed q) line = deedCause (q .deed) line
-
-abbrev pub cause : Call → Controller → ℕ → ℕ
-cause powerOn c line = line
-cause (byte x) c line = askedCause (asked c) line
-cause tick c line = line
-cause (press n) c line = line
-cause emptying c line = line
+abbrev pub cause : Res Asked → ℕ → ℕ
+cause command line = if writesOutputs command then 255 else if eqb (specialCode command) 6 then 254 else line
 
 -- "tick count", the count after the call; "value is the new word"; the line is that after the call, which set the word
 abbrev pub changeOf : Call → Controller → Controller → Change
 changeOf k before after =
-    record { cause = cause k before (after .run .line); tick = after .ticks; word = after .run .outputs }
+    record { cause = cause (finished k before) (after .run .line); tick = after .ticks; word = after .run .outputs }
 
--- the log to which a change is added: at power-on it is empty, and after emptying "the room is used again"
-abbrev pub logFor : Call → Controller → Areas → Log
-logFor powerOn c a = emptied (length (a .log))
-logFor (byte x) c a = c .log
-logFor tick c a = c .log
-logFor (press n) c a = c .log
-logFor emptying c a = emptied (c .log .size)
-
--- the log and its area after an accepted call
-unfoldable pub logged : Call → Controller → Areas → Did → Logged
-logged k c a x =
-    if changes k c (x .state) then addChange (logFor k c a) (a .log) (changeOf k c (x .state))
-    else record { log = logFor k c a; area = a .log }
+-- the log and its area after an accepted call that did x
+unfoldable pub logged : Call → Controller → Did → Logged
+logged k c x =
+    if changes k c (x .state) then addChange (x .state .log) (x .areas .log) (changeOf k c (x .state))
+    else record { log = x .state .log; area = x .areas .log }
 
 -- ---- answered
 
@@ -100,7 +69,7 @@ accepted x l = record {
 -- refused power-on returns the power-on state with a log length of 0".
 abbrev pub settled : Res (Unit {0}) → Call → Controller → Areas → After
 settled (refused n) k c a = record { answer = record { state = given k c; refusal = n; lines = 0; written = 0 }; areas = a }
-settled (passed ok) k c a = accepted (does k c a) (logged k c a (does k c a))
+settled (passed ok) k c a = accepted (does k c a) (logged k c (does k c a))
 
 -- A call made with the state c, which power-on does not look at, and the areas a.
 unfoldable pub call : Call → Controller → Areas → After

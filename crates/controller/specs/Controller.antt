@@ -1,10 +1,8 @@
 -- The controller state with one part altered, the lent areas, and what power-on makes.
 use Prim.Native.Nat.{ℕ}
 use mathlib.Core.Bool.{Bool, true, false}
-use mathlib.Core.List.{List, [], _∷_}
+use mathlib.Core.List.{List}
 use lib.ListN.{replicate}
-use lib.Dec.{eqb}
-use Rattle.formats.specs.Checks.{if_then_else_}
 use Rattle.lines.specs.Line.{endMark, bytesOf}
 use Rattle.running.specs.declared.Run.{Run}
 use Rattle.running.specs.Running.{allFree}
@@ -81,13 +79,14 @@ withOut x a = record { program = a .program; saved = a .saved; log = a .log; out
 -- ---- power-on
 
 -- 01, 'Running': "Power-on: outputs 0, stopped, line 000, parameter 0, tick count 0, log empty, event 012." 'Variables': 200 is
--- the "end mark with outputs 0 at power-on", 210 is "000 at first". 'The wire': the last addresses are "both 000 at power-on".
+-- the "end mark with outputs 0 at power-on", 210 is "000 at first". 'The wire': the last addresses are "both 000 at power-on
+-- (*house*)", so the next ones are 001.
 unfoldable pub fresh : ℕ → Controller
 fresh logLength = record {
   run = record { on = false; line = 0; outputs = 0; wait = 0; counters = allFree };
   paused = false;
   ticks = 0;
-  wire = record { chars = replicate 32 0; len = 0; overlong = false; lastread = 0; lastwrite = 0 };
+  wire = record { chars = replicate 32 0; len = 0; overlong = false; nextread = 1; nextwrite = 1 };
   panel = record { single = bytesOf endMark; parameter = 0; special = 0; event = 12; unread = true };
   log = emptied logLength;
 }

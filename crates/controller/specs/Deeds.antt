@@ -1,6 +1,6 @@
 -- What an accepted call does, before its change is logged.
-use Prim.Native.Nat.{ℕ, _+_, _-_}
-use mathlib.Core.Bool.{Bool, true, false, not}
+use Prim.Native.Nat.{ℕ, _+_}
+use mathlib.Core.Bool.{true, false, not}
 use mathlib.Core.List.{List, [], _∷_, _++_}
 use lib.ListN.{length, drop}
 use lib.Dec.{eqb}
@@ -12,18 +12,20 @@ use Rattle.lines.specs.Line.{bytesOf}
 use Rattle.lines.specs.Program.{putLine, cleaned}
 use Rattle.running.specs.declared.Ran.{Ran}
 use Rattle.running.specs.Running.{withOutputs, stopped, start, tick}
+use Rattle.log.specs.Log.{records, emptied}
 use Rattle.wire.specs.declared.Wire.{Wire}
 use Rattle.wire.specs.declared.Special.{Special}
 use Rattle.wire.specs.declared.Special.the-variants.{Stop, Pause, Start, Continue, StartAt, Execute, Load, Save}
-use Rattle.wire.specs.declared.Deed.{Deed}
-use Rattle.wire.specs.declared.Deed.the-variants.{Read, PutLine, PutOutputs, PutParameter, Command}
+use Rattle.wire.specs.declared.Data.{Data}
+use Rattle.wire.specs.declared.Data.the-variants.{WriteLine, WriteOutputs, WriteParameter, WriteSpecial}
 use Rattle.wire.specs.declared.Asked.{Asked}
+use Rattle.wire.specs.declared.Asked.the-variants.{Read, Write}
 use Rattle.wire.specs.Collecting.{collect, cleared}
 use Rattle.wire.specs.Special.{codeOf}
 use Rattle.wire.specs.Command.{command}
 use Rattle.controller.specs.declared.Controller.{Controller}
-use Rattle.controller.specs.Controller.{withRun, withPaused, withTicks, withWire, withSingle, withParameter, withSpecial, withEvent, mode, Areas, withProgram, withSaved, withOut}
-use Rattle.controller.specs.Variables.{lineOf, place, withByte, value}
+use Rattle.controller.specs.Controller.{withRun, withPaused, withTicks, withWire, withLog, withSingle, withParameter, withSpecial, withEvent, mode, Areas, withProgram, withSaved, withOut, fresh}
+use Rattle.controller.specs.Variables.{lineOf, withOutputByte, value}
 
 -- What was done: the state and the areas after it, the For and Next lines run, and the bytes written to the start of the reply or
 -- the destination.
@@ -45,7 +47,7 @@ unfoldable pub writing : List ℕ → Did → Did
 writing bytes x =
     record { state = x .state; areas = withOut (over bytes (x .areas .out)) (x .areas); lines = x .lines; written = length bytes }
 
--- ---- start, stop, event
+-- ---- start, stop, event, load, save
 
 -- "overwrites any unread event"; 0 is no event
 unfoldable pub raise : ℕ → Controller → Controller
@@ -53,15 +55,22 @@ raise event c = if eqb event 0 then c else withEvent event true c
 
 -- the run moved on
 unfoldable pub moved : Ran → Controller → Areas → Did
-moved r c a =
-    record { state = raise (r .event) (withRun (r .run) c); areas = a; lines = r .lines; written = 0 }
+moved r c a = record { state = raise (r .event) (withRun (r .run) c); areas = a; lines = r .lines; written = 0 }
 
 unfoldable pub startAt : ℕ → Controller → Areas → Did
 startAt k c a = moved (start (a .program) k (c .run .outputs)) c a
 
 -- 01, 'Special commands': "Stop frees the loops and keeps outputs and line."
-unfoldable pub halt : Controller → Controller
-halt c = withPaused false (withRun (stopped (c .run)) c)
+unfoldable pub stop : Controller → Controller
+stop c = withPaused false (withRun (stopped (c .run)) c)
+
+-- 01, 'Variables': "Power-on and command 007 load the saved copy in that cleaned form; 008 saves the program area likewise cleaned,
+-- leaving the area as it was."
+unfoldable pub load : Areas → Areas
+load a = withProgram (cleaned (a .saved)) a
+
+unfoldable pub save : Areas → Areas
+save a = withSaved (cleaned (a .program)) a
 
 -- ---- the special commands
 
@@ -72,40 +81,35 @@ execute (For counter count) c = c
 execute (Next counter) c = c
 
 unfoldable pub special : Special → Controller → Areas → Did
-special Stop c a = did (halt c) a
+special Stop c a = did (stop c) a
 special Pause c a = did (withPaused true c) a
 special Start c a = startAt 0 c a
 special Continue c a = did (withPaused false c) a
 special StartAt c a = startAt (c .panel .parameter) c a
 special Execute c a = did (execute (lineOf c (a .program) (c .panel .parameter)) c) a
-special Load c a = did c (withProgram (cleaned (a .saved)) a)
-special Save c a = did c (withSaved (cleaned (a .program)) a)
+special Load c a = did c (load a)
+special Save c a = did c (save a)
 
 -- ---- a command that passed the checks
 
-unfoldable pub deed : Deed → ℕ → Controller → Areas → Did
 -- "last event; reading it clears code and D7"
-deed Read k c a = did (if eqb k 212 then withEvent 0 false c else c) a
-deed (PutLine l) k c a = if eqb k 200 then did (withSingle (bytesOf l) c) a else did c (withProgram (putLine k l (a .program)) a)
-deed (PutOutputs x) k c a = did (withRun (withOutputs (withByte (place k) x (c .run .outputs)) (c .run)) c) a
-deed (PutParameter v) k c a = did (withParameter v c) a
-deed (Command s) k c a = special s (withSpecial (codeOf s) c) a
+abbrev pub read : ℕ → Controller → Controller
+read k c = if eqb k 212 then withEvent 0 false c else c
 
--- "An accepted write answers OK."
-abbrev pub replyTo : Deed → ℕ → Controller → Areas → List ℕ
-replyTo Read k c a = value c (a .program) k
-replyTo (PutLine l) k c a = text "OK"
-replyTo (PutOutputs x) k c a = text "OK"
-replyTo (PutParameter v) k c a = text "OK"
-replyTo (Command s) k c a = text "OK"
+unfoldable pub write : ℕ → Data → Controller → Areas → Did
+write k (WriteLine l) c a = if eqb k 200 then did (withSingle (bytesOf l) c) a else did c (withProgram (putLine k l (a .program)) a)
+write k (WriteOutputs x) c a = did (withRun (withOutputs (withOutputByte k x (c .run .outputs)) (c .run)) c) a
+write k (WriteParameter v) c a = did (withParameter v c) a
+write k (WriteSpecial s) c a = special s (withSpecial (codeOf s) c) a
 
 -- "Read and write keep separate last addresses [...] They move only on a command answered without an error."
-abbrev pub lastMoved : Deed → ℕ → Wire → Wire
-lastMoved Read k w = record { chars = w .chars; len = w .len; overlong = w .overlong; lastread = k; lastwrite = w .lastwrite }
-lastMoved (PutLine l) k w = record { chars = w .chars; len = w .len; overlong = w .overlong; lastread = w .lastread; lastwrite = k }
-lastMoved (PutOutputs x) k w = record { chars = w .chars; len = w .len; overlong = w .overlong; lastread = w .lastread; lastwrite = k }
-lastMoved (PutParameter v) k w = record { chars = w .chars; len = w .len; overlong = w .overlong; lastread = w .lastread; lastwrite = k }
-lastMoved (Command s) k w = record { chars = w .chars; len = w .len; overlong = w .overlong; lastread = w .lastread; lastwrite = k }
+abbrev pub readTo : ℕ → Controller → Controller
+readTo k c =
+    withWire (record { chars = c .wire .chars; len = c .wire .len; overlong = c .wire .overlong; nextread = k + 1; nextwrite = c .wire .nextwrite }) c
+
+abbrev pub wroteTo : ℕ → Controller → Controller
+wroteTo k c =
+    withWire (record { chars = c .wire .chars; len = c .wire .len; overlong = c .wire .overlong; nextread = c .wire .nextread; nextwrite = k + 1 }) c
 
 -- ---- a wire byte
 
@@ -113,24 +117,24 @@ lastMoved (Command s) k w = record { chars = w .chars; len = w .len; overlong = 
 abbrev pub ended : List ℕ → List ℕ
 ended reply = reply ++ (13 ∷ [])
 
--- "Each 13 gets one reply, then collection starts empty." "An error reply changes nothing but the emptied collection."
+abbrev pub emptyCollection : Controller → Controller
+emptyCollection c = withWire (cleared (c .wire)) c
+
+-- "Each 13 gets one reply, then collection starts empty." "An accepted write answers OK." "An error reply changes nothing but the
+-- emptied collection."
 unfoldable pub answer : Res Asked → Controller → Areas → Did
-answer (refused e) c a = writing (ended (errorText e)) (did (withWire (cleared (c .wire)) c) a)
-answer (passed q) c a =
-    let k = q .address in
-    writing (ended (replyTo (q .deed) k c a))
-    (deed (q .deed) k (withWire (cleared (lastMoved (q .deed) k (c .wire))) c) a)
+answer (refused e) c a = writing (ended (errorText e)) (did (emptyCollection c) a)
+answer (passed (Read k)) c a = writing (ended (value c (a .program) k)) (did (read k (readTo k (emptyCollection c))) a)
+answer (passed (Write k x)) c a = writing (ended (text "OK")) (write k x (wroteTo k (emptyCollection c)) a)
 
 -- what the command collected so far asks for, or its error
 abbrev pub asked : Controller → Res Asked
 asked c = command (c .wire) (mode c) (c .panel .parameter)
 
 unfoldable pub byte : ℕ → Controller → Areas → Did
-byte x c a =
-    if eqb x 13 then answer (asked c) c a
-    else did (withWire (collect x (c .wire)) c) a
+byte x c a = if eqb x 13 then answer (asked c) c a else did (withWire (collect x (c .wire)) c) a
 
--- ---- a tick and a press
+-- ---- a tick, a press, emptying, power-on
 
 -- "A tick first adds one to the count, whether stopped, paused or running."
 unfoldable pub ticked : Controller → Areas → Did
@@ -142,5 +146,13 @@ ticked c a =
 -- "Pause pauses, continues, or when stopped does nothing."
 unfoldable pub pressed : ℕ → Controller → Areas → Did
 pressed n c a =
-    if eqb n 1 then (if c .run .on then did (raise 10 (halt c)) a else startAt 0 c a)
+    if eqb n 1 then (if c .run .on then did (raise 10 (stop c)) a else startAt 0 c a)
     else (if c .run .on then did (withPaused (not (c .paused)) c) a else did c a)
+
+-- 01, 'The log': "Emptying copies the records held, in order, to the start of the destination, leaves its rest, returns their byte
+-- count, and the room is used again. It changes no byte of the log".
+unfoldable pub emptyLog : Controller → Areas → Did
+emptyLog c a = writing (records (c .log) (a .log)) (did (withLog (emptied (c .log .length)) c) a)
+
+unfoldable pub powerUp : Areas → Did
+powerUp a = did (fresh (length (a .log))) (load a)

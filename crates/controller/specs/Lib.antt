@@ -2,6 +2,6 @@ pub mod Controller
 pub mod Variables
 pub mod Deeds
 pub mod Refusals
+pub mod Effects
 pub mod Calls
 pub mod Invariant
-pub mod Effects

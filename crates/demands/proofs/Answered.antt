@@ -2,35 +2,32 @@
 -- call ends. The box checks its callers itself. A refused call changes only what document 01 says it changes."
 -- Every call has an outcome because `call` is a function; here is what the outcome is where something is refused.
 -- Assumes nothing.
-use mathlib.Core.Path.{_≡_, refl, sym, ap, _∙_}
+use mathlib.Core.Path.{_≡_, refl, _∙_}
+use Prim.Native.Nat.{ℕ}
 use mathlib.Core.Logic.{_≢_}
-use Prim.Native.Nat.{ℕ, _≤_}
-use mathlib.Core.Bool.{Bool, true, false, not}
-use mathlib.Core.List.{List, [], _∷_, _++_}
-use lib.ListN.{length}
-use lib.Dec.{eqb}
-use borrow.Author.Tests.{eq-eqb}
-use Rattle.formats.specs.Checks.{if_then_else_, Res, refused, passed}
-use Rattle.formats.specs.Digits.{errorText}
-use Rattle.wire.specs.Collecting.{cleared}
+use mathlib.Core.Bool.{false, true≢false}
+use mathlib.Core.List.{List, [], _∷_}
+use Rattle.log.specs.Log.{emptied}
 use Rattle.controller.specs.declared.Controller.{Controller}
-use Rattle.controller.specs.declared.Answer.{Answer}
-use Rattle.controller.specs.Controller.{withWire, withOut, Areas, fresh}
-use Rattle.controller.specs.Deeds.{over, ended, asked, answer, writing}
-use Rattle.controller.specs.Deeds as Deeds
-use Rattle.controller.specs.Refusals.{Call, powerOn, byte, isPowerOn}
-use Rattle.controller.specs.Calls.{After, does, logged, call}
+use Rattle.controller.specs.Controller.{Areas, fresh}
+use Rattle.controller.specs.Refusals.{Call, powerOn, byte, tick, press, emptying}
+use Rattle.controller.specs.Effects.{isPowerOn}
+use Rattle.controller.specs.Calls.{call}
 use Rattle.controller.specs.Invariant.{Invariant}
 use Rattle.controller.proofs.Invariant.{fresh-invariant, call-invariant}
-use Rattle.controller.proofs.Refusals.{refusedWith, refused-call, accepted-call}
-use Rattle.demands.specs.Histories.{Made, Held, unpowered, outcome, isAccepted, next, after}
+use Rattle.controller.proofs.Refusals.{refusedWith, refused-call, unpowered-refuses}
+use Rattle.demands.specs.Histories.{Made, Held, unpowered, outcome, next, after}
 
 -- ---- the invariant
 
+pub next-invariant : (h : Held) (m : Made) → Invariant (h .state) → Invariant (next h m .state)
+unfolding next outcome
+next-invariant h m i = call-invariant (m .call) (h .state) (m .areas) i
+
 invariant-from : (h : Held) (ms : List Made) → Invariant (h .state) → Invariant (after h ms .state)
-unfolding after next outcome
+unfolding after
 invariant-from h [] i = i
-invariant-from h (m ∷ ms) i = invariant-from (next h m) ms (call-invariant (m .call) (h .state) (m .areas) i)
+invariant-from h (m ∷ ms) i = invariant-from (next h m) ms (next-invariant h m i)
 
 -- The invariant holds after every sequence of calls, whatever is lent to them.
 pub invariant-always : (ms : List Made) → Invariant (after unpowered ms .state)
@@ -45,13 +42,21 @@ refused-leaves k c a other ne = refused-call k c a ne ∙ same k other
   where
     same : (k′ : Call) → isPowerOn k′ ≡ false → refusedWith (call k c a .answer .refusal) k′ c a
         ≡ record { answer = record { state = c; refusal = call k c a .answer .refusal; lines = 0; written = 0 }; areas = a }
-    same powerOn e = absurd (mathlib.Core.Bool.true≢false e)
+    same powerOn e = absurd (true≢false e)
     same (byte x) e = refl
-    same Call.tick e = refl
-    same (Call.press n) e = refl
-    same Call.emptying e = refl
+    same tick e = refl
+    same (press n) e = refl
+    same emptying e = refl
+
+fresh-length : (n : ℕ) → fresh n .log .length ≡ n
+unfolding fresh emptied
+fresh-length n = refl
 
 -- A refused power-on returns the power-on state with a log length of 0, and loads nothing.
 pub refused-power-on : (c : Controller) (a : Areas) → call powerOn c a .answer .refusal ≢ 0
     → call powerOn c a ≡ record { answer = record { state = fresh 0; refusal = call powerOn c a .answer .refusal; lines = 0; written = 0 }; areas = a }
 refused-power-on c a ne = refused-call powerOn c a ne
+
+-- And every later call on it is refused, until a power-on.
+pub refused-after-it : (k : Call) (a : Areas) → isPowerOn k ≡ false → call k (fresh 0) a .answer .refusal ≢ 0
+refused-after-it k a other = unpowered-refuses k (fresh 0) a other (fresh-length 0)

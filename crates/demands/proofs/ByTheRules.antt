@@ -13,13 +13,13 @@ use Rattle.running.specs.declared.Ran.{Ran}
 use Rattle.running.specs.Running.{start, tick, ticks}
 use Rattle.controller.specs.declared.Controller.{Controller}
 use Rattle.controller.specs.Controller.{Areas}
-use Rattle.controller.specs.Refusals.{Call, powerOn, byte, tick as tickCall, press, emptying, isPowerOn}
+use Rattle.controller.specs.Refusals.{Call, powerOn, byte, tick as tickCall, press, emptying}
 use Rattle.controller.specs.Calls.{After, does}
-use Rattle.controller.specs.Effects.{commandOf, startLine}
+use Rattle.controller.specs.Effects.{finished, isPowerOn, startLine}
 use Rattle.controller.proofs.Moving.{MovedAs, does-start, tick-as}
-use Rattle.demands.specs.Histories.{Made, Held, outcome, isAccepted, next, after, HandsOn, AllHandOn}
+use Rattle.demands.specs.Histories.{Made, Held, outcome, isAccepted, isLentProgram, next, after, HandsOn, AllHandOn}
 use Rattle.demands.specs.Undisturbed.{Unbroken, unpaused}
-use Rattle.demands.proofs.Steps.{Step, passes, fails, stepped}
+use Rattle.demands.proofs.Steps.{Step, passes, fails, stepped, program-held}
 use Rattle.demands.proofs.Undisturbed.{Goes, undisturbed}
 
 -- ---- one call
@@ -41,7 +41,7 @@ moves h m r other ok hands d = go (stepped h m)
     go (passes _ ch e f) =
         record {
           run = ap (λ (g : Held). g .state .run) f ∙ d .run;
-          program = ap (λ (g : Held). g .program) f ∙ d .program ∙ hands .program other ok;
+          program = program-held h m other ok hands f (d .program);
           event = λ ne. let p = d .event ne in (ap (λ (g : Held). g .state .panel .event) f ∙ p .0, ap (λ (g : Held). g .state .panel .unread) f ∙ p .1);
           silent = λ z. let p = d .silent z in (ap (λ (g : Held). g .state .panel .event) f ∙ p .0, ap (λ (g : Held). g .state .panel .unread) f ∙ p .1);
           lines = ap (λ (x : After). x .answer .lines) e ∙ d .lines;
@@ -51,19 +51,27 @@ not-some : {A : Type 0} {k : A} → none ≡ some k → ⊥
 not-some e = let z : _≡_ {A = ℕ} 0 1 = cc in omega arith
 
 not-power-on : (k : Call) (j : ℕ) (c : Controller) → startLine k c ≡ some j → isPowerOn k ≡ false
-unfolding startLine commandOf
+unfolding startLine finished
 not-power-on powerOn j c e = absurd (not-some e)
 not-power-on (byte x) j c e = refl
 not-power-on tickCall j c e = refl
 not-power-on (press n) j c e = refl
 not-power-on emptying j c e = refl
 
+start-lent : (k : Call) (j : ℕ) (c : Controller) → startLine k c ≡ some j → isLentProgram k ≡ true
+unfolding startLine finished
+start-lent powerOn j c e = refl
+start-lent (byte x) j c e = refl
+start-lent tickCall j c e = refl
+start-lent (press n) j c e = refl
+start-lent emptying j c e = absurd (not-some e)
+
 -- An accepted start, by command 003 or 005 or by the button, moves the run as the rules' start does.
 pub start-by-the-rules : (h : Held) (m : Made) (k : ℕ) → isAccepted h m ≡ true → HandsOn h m → startLine (m .call) (h .state) ≡ some k
     → Moves h m (start (h .program) k (h .state .run .outputs))
 start-by-the-rules h m k ok hands e =
     let other = not-power-on (m .call) k (h .state) e in
-    subst (λ q. Moves h m (start q k (h .state .run .outputs))) (hands .program other ok)
+    subst (λ q. Moves h m (start q k (h .state .run .outputs))) (hands .program other (start-lent (m .call) k (h .state) e) ok)
     (moves h m _ other ok hands (does-start (m .call) k (h .state) (m .areas) e))
 
 -- A tick that is taken unpaused moves the run as the rules' tick does.
@@ -71,7 +79,7 @@ tick-by-the-rules : (h : Held) (a : Areas) → let m : Made = record { call = ti
     isAccepted h m ≡ true → HandsOn h m → h .state .paused ≡ false → Moves h m (tick (h .program) (h .state .run))
 unfolding does
 tick-by-the-rules h a ok hands unpaused =
-    subst (λ q. Moves h (record { call = tickCall; areas = a }) (tick q (h .state .run))) (hands .program refl ok)
+    subst (λ q. Moves h (record { call = tickCall; areas = a }) (tick q (h .state .run))) (hands .program refl refl ok)
     (moves h (record { call = tickCall; areas = a }) _ refl ok hands (tick-as (h .state) a unpaused))
 
 -- ---- the demand

@@ -2,7 +2,7 @@
 -- Assumes nothing.
 use mathlib.Core.Path.{_≡_, refl, sym, ap, ap₂, _∙_}
 use Prim.Native.Nat.{ℕ, zero, suc, _+_}
-use mathlib.Core.Bool.{Bool, true, false, not, _&&_, true≢false}
+use mathlib.Core.Bool.{Bool, true, false, true≢false}
 use mathlib.Core.List.{List, [], _∷_}
 use lib.Dec.{eqb}
 use borrow.Author.Tests.{eqb-false}
@@ -11,14 +11,13 @@ use Rattle.running.specs.declared.Run.{Run}
 use Rattle.running.specs.Running.{tick, ticks}
 use Rattle.running.proofs.Waiting.{ticks-add, was-on}
 use Rattle.controller.specs.Controller.{Areas}
-use Rattle.controller.specs.Deeds.{Did}
-use Rattle.controller.specs.Refusals.{Call, powerOn, byte, tick as tickCall, press, emptying, isPowerOn}
+use Rattle.controller.specs.Refusals.{Call, powerOn, byte, tick as tickCall, press, emptying}
 use Rattle.controller.specs.Calls.{does}
-use Rattle.controller.specs.Effects.{commandOf, isPress}
+use Rattle.controller.specs.Effects.{finished, specialCode, isPress, isPowerOn}
 use Rattle.controller.proofs.Moving.{Same, byte-same, paused-same, press-same, emptying-same, MovedAs, tick-as}
 use Rattle.demands.specs.Histories.{Made, Held, isAccepted, next, after, HandsOn, AllHandOn}
 use Rattle.demands.specs.Undisturbed.{isBroken, Unbroken, tickOf, counts, unpaused}
-use Rattle.demands.proofs.Steps.{done, Step, passes, fails, stepped, both-false}
+use Rattle.demands.proofs.Steps.{doing, doneHeld, Step, passes, fails, stepped, refused-held, program-held, both-false, neither}
 
 -- what is held moves on by n ticks, and by nothing else
 pub record Goes (h : Held) (n : ℕ) (h′ : Held) : Type 0 where
@@ -33,60 +32,55 @@ one-tick : (p : List ℕ) (r : Run) → ticks p 1 r ≡ tick p r .run
 unfolding ticks
 one-tick p r = refl
 
-neither : (t u : Bool) → (if t then true else u) ≡ false → (t ≡ false) × (u ≡ false)
-neither true u e = absurd (true≢false e)
-neither false u e = (refl, e)
-
 -- a tick that is taken counts, unless it is taken while paused
 by-pause : (ok paused : Bool) (P : ℕ → Type 0) → ok ≡ true → (paused ≡ true → P 0) → (paused ≡ false → P 1) → P (tickOf tickCall ok paused)
 by-pause true true P e f g = f refl
 by-pause true false P e f g = g refl
 by-pause false paused P e f g = absurd (true≢false (sym e))
 
-module _ (h : Held) (on : h .state .run .on ≡ true) where
+module _ (h : Held) (m : Made) (other : isPowerOn (m .call) ≡ false) (hands : HandsOn h m) where
   -- a refused call
-  stays : (m : Made) → next h m ≡ h → Goes h 0 (next h m)
-  stays m e = record { run = ap (λ (g : Held). g .state .run) e ∙ sym (no-ticks (h .program) (h .state .run)); program = ap (λ (g : Held). g .program) e }
+  stays : next h m ≡ h → Goes h 0 (next h m)
+  stays e = record { run = ap (λ (g : Held). g .state .run) e ∙ sym (no-ticks (h .program) (h .state .run)); program = ap (λ (g : Held). g .program) e }
 
-  module _ (k : Call) (a : Areas) (other : isPowerOn k ≡ false) (ok : isAccepted h (record { call = k; areas = a }) ≡ true)
-      (hands : HandsOn h (record { call = k; areas = a }))
-      (f : next h (record { call = k; areas = a }) ≡ record { state = done h (record { call = k; areas = a }) .answer .state; program = done h (record { call = k; areas = a }) .areas .program; log = done h (record { call = k; areas = a }) .areas .log }) where
-    program-stays : does k (h .state) a .areas .program ≡ a .program → next h (record { call = k; areas = a }) .program ≡ h .program
-    program-stays e = ap (λ (g : Held). g .program) f ∙ e ∙ hands .program other ok
+  -- an accepted call that leaves the run
+  same-goes : isAccepted h m ≡ true → next h m ≡ doneHeld h m → Same (h .state) (m .areas) (doing h m) → Goes h 0 (next h m)
+  same-goes ok f s =
+      record {
+        run = ap (λ (g : Held). g .state .run) f ∙ s .run ∙ sym (no-ticks (h .program) (h .state .run));
+        program = program-held h m other ok hands f (s .program);
+      }
 
-    -- an accepted call that leaves the run
-    same-goes : Same (h .state) a (does k (h .state) a) → Goes h 0 (next h (record { call = k; areas = a }))
-    same-goes s =
-        record { run = ap (λ (g : Held). g .state .run) f ∙ s .run ∙ sym (no-ticks (h .program) (h .state .run)); program = program-stays (s .program) }
+module _ (h : Held) (a : Areas) (hands : HandsOn h (record { call = tickCall; areas = a })) where
+  -- an accepted tick that is not taken while paused
+  tick-goes : let m : Made = record { call = tickCall; areas = a } in isAccepted h m ≡ true → next h m ≡ doneHeld h m
+      → MovedAs (tick (a .program) (h .state .run)) (h .state) (a .program) (doing h m) → Goes h 1 (next h m)
+  tick-goes ok f d =
+      record {
+        run = ap (λ (g : Held). g .state .run) f ∙ d .run ∙ sym (one-tick (a .program) (h .state .run)) ∙ ap (λ p. ticks p 1 (h .state .run)) (hands .program refl refl ok);
+        program = program-held h (record { call = tickCall; areas = a }) refl ok hands f (d .program);
+      }
 
-    -- an accepted tick that moves it
-    tick-goes : MovedAs (tick (a .program) (h .state .run)) (h .state) (a .program) (does k (h .state) a) → Goes h 1 (next h (record { call = k; areas = a }))
-    tick-goes d =
-        record {
-          run = ap (λ (g : Held). g .state .run) f ∙ d .run ∙ sym (one-tick (a .program) (h .state .run)) ∙ ap (λ p. ticks p 1 (h .state .run)) (hands .program other ok);
-          program = program-stays (d .program);
-        }
-
-  -- One call that breaks nothing off moves the run by as many ticks as it counts, and by nothing else.
-  goes : (k : Call) (a : Areas) → let m : Made = record { call = k; areas = a } in
-      HandsOn h m → isBroken h m ≡ false → Step h m → Goes h (counts h m) (next h m)
-  unfolding counts isBroken does commandOf
-  goes powerOn a hands u s = absurd (true≢false u)
-  goes (byte x) a hands u (fails ok n e f) = stays _ f
-  goes tickCall a hands u (fails ok n e f) = rw ok (stays _ f)
-  goes (press n) a hands u (fails ok _ e f) = stays _ f
-  goes emptying a hands u (fails ok n e f) = stays _ f
-  goes (byte x) a hands u (passes ok ch e f) =
-      let b = neither (eqb (commandOf (byte x) (h .state)) 1) false (both-false _ _ ok u) in
-      same-goes (byte x) a refl ok hands f (byte-same x (h .state) a on (eqb-false _ _ (b .0)))
-  goes tickCall a hands u (passes ok ch e f) =
-      let m : Made = record { call = tickCall; areas = a } in
-      by-pause (isAccepted h m) (h .state .paused) (λ n. Goes h n (next h m)) ok
-      (λ p. same-goes tickCall a refl ok hands f (paused-same (h .state) a p)) (λ p. tick-goes tickCall a refl ok hands f (tick-as (h .state) a p))
-  goes (press n) a hands u (passes ok ch e f) =
-      let b = neither (eqb (commandOf (press n) (h .state)) 1) (eqb n 1) (both-false _ _ ok u) in
-      same-goes (press n) a refl ok hands f (press-same n (h .state) a on (b .1))
-  goes emptying a hands u (passes ok ch e f) = same-goes emptying a refl ok hands f (emptying-same (h .state) a)
+-- One call that breaks nothing off moves the run by as many ticks as it counts, and by nothing else.
+goes : (h : Held) → h .state .run .on ≡ true → (k : Call) (a : Areas) → let m : Made = record { call = k; areas = a } in
+    HandsOn h m → isBroken h m ≡ false → Step h m → Goes h (counts h m) (next h m)
+unfolding counts isBroken does
+goes h on powerOn a hands u s = absurd (true≢false u)
+goes h on (byte x) a hands u (fails ok n e f) = stays h _ refl hands (refused-held h _ refl f)
+goes h on tickCall a hands u (fails ok n e f) = rw ok (stays h _ refl hands (refused-held h _ refl f))
+goes h on (press n) a hands u (fails ok _ e f) = stays h _ refl hands (refused-held h _ refl f)
+goes h on emptying a hands u (fails ok n e f) = stays h _ refl hands (refused-held h _ refl f)
+goes h on (byte x) a hands u (passes ok ch e f) =
+    let b = neither (eqb (specialCode (finished (byte x) (h .state))) 1) false (both-false _ _ ok u) in
+    same-goes h _ refl hands ok f (byte-same x (h .state) a on (eqb-false _ _ (b .0)))
+goes h on tickCall a hands u (passes ok ch e f) =
+    let m : Made = record { call = tickCall; areas = a } in
+    by-pause (isAccepted h m) (h .state .paused) (λ n. Goes h n (next h m)) ok
+    (λ p. same-goes h m refl hands ok f (paused-same (h .state) a p)) (λ p. tick-goes h a hands ok f (tick-as (h .state) a p))
+goes h on (press n) a hands u (passes ok ch e f) =
+    let b = neither (eqb (specialCode (finished (press n) (h .state))) 1) (eqb n 1) (both-false _ _ ok u) in
+    same-goes h _ refl hands ok f (press-same n (h .state) a on (b .1))
+goes h on emptying a hands u (passes ok ch e f) = same-goes h _ refl hands ok f (emptying-same (h .state) a)
 
 -- While no stop and no power-on comes and the program has not ended by the rules, the run is the one that the rules give.
 pub undisturbed : (ms : List Made) (h : Held) → AllHandOn h ms → Unbroken h ms → ticks (h .program) (unpaused h ms) (h .state .run) .on ≡ true

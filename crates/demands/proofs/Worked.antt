@@ -16,9 +16,10 @@ use Rattle.controller.specs.Controller as Controller
 use Rattle.controller.specs.Variables as Variables
 use Rattle.controller.specs.Deeds as Deeds
 use Rattle.controller.specs.Refusals as Refusals
+use Rattle.controller.specs.Effects as Effects
 use Rattle.controller.specs.Calls as Calls
-use Rattle.demands.specs.Points.{failing, points, passes, tried, noted, begun, copied}
+use Rattle.demands.specs.Points.{failing, points, passes, tried, exchanged, judged, begun}
 
 pub worked-points : failing 1 points ≡ []
-unfolding failing points passes tried noted begun copied Checks._>>=_ Checks._>>_ Checks._orElse_ Checks.text Digits.digits Digits.numberAfter Digits.shown Digits.numberIn Digits.errorText Line.readLine Line.bytesOf Program.lineAt Program.putLine Program.cleanedLines Program.firstNext Program.nextAfter Text.lineText Text.counterIn Text.stateIn Text.forIn Text.nextIn Text.lineIn Running.stopped Running.onward Running.runLine Running.step Running.runDue Running.start Running.tick Record.recordOf Record.changeRecord Record.gapRecord Log.place Log.addChange Log.records Log.emptied Collecting.collect Collecting.sent Special.allowed Special.specialOf Command.addressIn Command.hIn Command.dIn Command.commandIn Command.lineDeed Command.outputsDeed Command.parameterDeed Command.writeDeed Command.readCommand Command.writeCommand Command.command Controller.fresh Variables.lineOf Variables.value Deeds.writing Deeds.raise Deeds.moved Deeds.startAt Deeds.halt Deeds.special Deeds.deed Deeds.answer Deeds.byte Deeds.ticked Refusals.check Calls.does Calls.logged Calls.call
+unfolding failing points passes tried exchanged judged begun Checks._>>=_ Checks._>>_ Checks._orElse_ Checks.text Digits.digits Digits.numberAfter Digits.shown Digits.numberIn Digits.hIn Digits.dIn Digits.errorText Line.readLine Line.bytesOf Program.lineAt Program.putLine Program.cleanedLines Program.firstNext Program.nextAfter Text.lineText Text.counterIn Text.stateIn Text.forIn Text.nextIn Text.lineIn Running.stopped Running.onward Running.runLine Running.step Running.runDue Running.start Running.tick Record.recordOf Record.changeRecord Record.gapRecord Log.place Log.addChange Log.records Log.emptied Collecting.collect Collecting.sent Special.allowed Special.specialOf Command.addressIn Command.specialIn Command.dataIn Command.readCommand Command.writeCommand Command.command Controller.fresh Variables.lineOf Variables.outputByte Variables.withOutputByte Variables.value Deeds.writing Deeds.raise Deeds.moved Deeds.startAt Deeds.stop Deeds.load Deeds.save Deeds.special Deeds.write Deeds.answer Deeds.byte Deeds.ticked Deeds.emptyLog Deeds.powerUp Refusals.check Effects.finished Calls.does Calls.logged Calls.call
 worked-points = refl

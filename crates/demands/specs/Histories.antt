@@ -1,14 +1,15 @@
 -- Calls one after the other, refused ones among them, as the demands speak of them.
 use Prim.Native.Nat.{ℕ}
 use mathlib.Core.Path.{_≡_}
-use mathlib.Core.Bool.{Bool, true, false}
+use mathlib.Core.Bool.{Bool, true, false, _&&_}
 use mathlib.Core.List.{List, [], _∷_}
 use lib.Dec.{eqb}
 use Rattle.formats.specs.Checks.{if_then_else_}
 use Rattle.controller.specs.declared.Controller.{Controller}
 use Rattle.controller.specs.Controller.{Areas, fresh}
-use Rattle.controller.specs.Refusals.{Call, isPowerOn}
+use Rattle.controller.specs.Refusals.{Call, powerOn, byte, tick, press, emptying}
 use Rattle.controller.specs.Calls.{After, call}
+use Rattle.controller.specs.Effects.{isPowerOn}
 
 -- a call and the areas that it is lent, of any length and content
 pub record Made : Type 0 where
@@ -16,7 +17,7 @@ pub record Made : Type 0 where
   pub areas : Areas
 
 -- What the caller holds between two calls: the state that the last call returned, and the program area and the log as the last
--- accepted call left them.
+-- accepted call that was lent them left them.
 pub record Held : Type 0 where
   pub state : Controller
   pub program : List ℕ
@@ -33,10 +34,18 @@ outcome h m = call (m .call) (h .state) (m .areas)
 abbrev pub isAccepted : Held → Made → Bool
 isAccepted h m = eqb (outcome h m .answer .refusal) 0
 
+-- "Every call but emptying is lent the program area and the log"; emptying is lent the log
+abbrev pub isLentProgram : Call → Bool
+isLentProgram powerOn = true
+isLentProgram (byte x) = true
+isLentProgram tick = true
+isLentProgram (press n) = true
+isLentProgram emptying = false
+
 unfoldable pub next : Held → Made → Held
 next h m = record {
   state = outcome h m .answer .state;
-  program = if isAccepted h m then outcome h m .areas .program else h .program;
+  program = if isAccepted h m && isLentProgram (m .call) then outcome h m .areas .program else h .program;
   log = if isAccepted h m then outcome h m .areas .log else h .log;
 }
 
@@ -45,9 +54,9 @@ after h [] = h
 after h (m ∷ ms) = after (next h m) ms
 
 -- 00: "In 2 and 3 the caller alters neither the program area nor the log between calls." What is lent to power-on, or to a call
--- that is refused, may be anything. (Emptying is not lent the program, and leaves what stands here as its program area.)
+-- that is refused, may be anything.
 pub record HandsOn (h : Held) (m : Made) : Type 0 where
-  pub program : isPowerOn (m .call) ≡ false → isAccepted h m ≡ true → m .areas .program ≡ h .program
+  pub program : isPowerOn (m .call) ≡ false → isLentProgram (m .call) ≡ true → isAccepted h m ≡ true → m .areas .program ≡ h .program
   pub log : isPowerOn (m .call) ≡ false → isAccepted h m ≡ true → m .areas .log ≡ h .log
 
 abbrev pub AllHandOn : Held → List Made → Type 0

@@ -2,13 +2,12 @@
 use Prim.Native.Nat.{ℕ}
 use mathlib.Core.Path.{_≡_}
 use mathlib.Core.Bool.{Bool, true, false, _&&_, _||_}
-use mathlib.Core.List.{List, [], _∷_, _++_}
+use mathlib.Core.List.{List, [], _∷_}
 use lib.ListN.{take}
-use lib.Dec.{eqb}
 use Rattle.wire.specs.Collecting.{sent}
 use Rattle.controller.specs.Controller.{Areas}
-use Rattle.controller.specs.Effects.{replaces}
-use Rattle.controller.specs.Refusals.{Call, powerOn, byte, tick, press, emptying, isPowerOn}
+use Rattle.controller.specs.Effects.{isPowerOn, replaces}
+use Rattle.controller.specs.Refusals.{Call, byte}
 use Rattle.demands.specs.Histories.{Made, Held, outcome, isAccepted, next}
 
 -- the reply of a call, as it stands in its area

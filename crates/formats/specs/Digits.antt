@@ -5,8 +5,9 @@ use Prim.Native.Nat.{ℕ, zero, suc, _+_, _*_, _-_, _/_, _%_}
 use Prim.Native.Char.{code}
 use mathlib.Core.Bool.{Bool, true, false, _&&_}
 use mathlib.Core.List.{List, [], _∷_, _++_, map}
-use lib.Dec.{leb, ltb}
-use Rattle.formats.specs.Checks.{if_then_else_, Res, refused, passed, _>>_, _orElse_, all, text}
+use lib.ListN.{length}
+use lib.Dec.{leb, ltb, eqb}
+use Rattle.formats.specs.Checks.{if_then_else_, Res, refused, passed, _>>=_, _>>_, _orElse_, all, text}
 
 -- the last n digits of v to a base
 unfoldable pub digits : ℕ → ℕ → ℕ → List ℕ
@@ -47,13 +48,25 @@ numberIn base e cs = do
   all (isDigit base) cs orElse e
   passed (number base (map digitValue cs))
 
--- ---- the paper's formats, and its error reply
+-- ---- the paper's formats, shown and read; "Characters left over or missing: E002", "Data not in its format, d above 255: E003"
 
 abbrev pub h : ℕ → List ℕ
 h v = shown 16 2 v
 
+unfoldable pub hIn : List ℕ → Res ℕ
+hIn cs = do
+  eqb (length cs) 2 orElse 2
+  numberIn 16 3 cs
+
 abbrev pub d : ℕ → List ℕ
 d v = shown 10 3 v
+
+unfoldable pub dIn : List ℕ → Res ℕ
+dIn cs = do
+  eqb (length cs) 3 orElse 2
+  v ← numberIn 10 3 cs
+  leb v 255 orElse 3
+  passed v
 
 abbrev pub 2d : ℕ → List ℕ
 2d v = shown 10 4 v

@@ -39,7 +39,7 @@ abbrev pub isNext : List ℕ → Bool
 isNext bs = eqb (getD bs 0 0) 0x4E && isCounter (getD bs 1 0) && eqb (field 2 6 bs) 0
 
 -- The line that the first eight bytes say. "Eight bytes that are none of these count as a State with outputs 0 and time 0
--- wherever they are read."
+-- wherever they are read (*house*)."
 unfoldable pub readLine : List ℕ → Line
 readLine bs =
     if isState bs then State (field 2 4 bs) (field 6 2 bs)

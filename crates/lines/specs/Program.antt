@@ -35,6 +35,6 @@ unfoldable pub firstNext : ℕ → ℕ → ℕ → List ℕ → ℕ
 firstNext c zero k p = k
 firstNext c (suc n) k p = elim (isNextOf c (readLine p)) [ true ↦ k | false ↦ firstNext c n (k + 1) (drop 8 p) ]
 
--- The pairing of For and Next: the first Next of counter c on a line later than k; 200 where there is none.
+-- The search for a Next: the first Next of counter c on a line later than k; 200 where there is none.
 unfoldable pub nextAfter : List ℕ → ℕ → ℕ → ℕ
 nextAfter p c k = firstNext c (199 - k) (k + 1) (drop (8 * (k + 1)) p)

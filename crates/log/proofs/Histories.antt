@@ -13,7 +13,7 @@ use Rattle.formats.specs.Checks.{if_then_else_}
 use Rattle.formats.proofs.Checks.{if-case}
 use Rattle.log.specs.declared.Change.{Change}
 use Rattle.log.specs.declared.Log.{Log}
-use Rattle.log.specs.Record.{size, changeRecord, gapRecord}
+use Rattle.log.specs.Record.{recordSize, leastArea, changeRecord, gapRecord}
 use Rattle.log.specs.Log.{R, mostLost, Logged, place, oneMoreLost, addChange, held, records, emptied, recordsOf, lastTick, history}
 use Rattle.log.specs.Invariant.{LogInvariant}
 use Rattle.log.proofs.Places.{length-change, length-gap, place-before, place-at, length-place}
@@ -37,14 +37,14 @@ one-more-is n le =
 -- ---- what holds of a log after the changes cs since emptying
 
 pub record Holds (cs : List Change) (l : Log) (area : List ℕ) : Type 0 where
-  pub enough : 24 ≤ l .size
-  pub whole : length area ≡ l .size
+  pub enough : leastArea ≤ l .length
+  pub whole : length area ≡ l .length
   pub keptIs : l .kept ≡ min (length cs) (R l - 1)
   pub lostIs : l .lost ≡ min (length cs - (R l - 1)) mostLost
-  pub first : take (size * (l .kept)) area ≡ recordsOf (take (R l - 1) cs)
-  pub gap : R l ≤ length cs → take (size * (l .kept) + size) area ≡ recordsOf (take (R l - 1) cs) ++ gapRecord (lastTick 0 cs) (l .lost)
+  pub first : take (recordSize * (l .kept)) area ≡ recordsOf (take (R l - 1) cs)
+  pub gap : R l ≤ length cs → take (recordSize * (l .kept) + recordSize) area ≡ recordsOf (take (R l - 1) cs) ++ gapRecord (lastTick 0 cs) (l .lost)
 
-pub holds-nothing : (n : ℕ) (area : List ℕ) → 24 ≤ n → length area ≡ n → Holds [] (emptied n) area
+pub holds-nothing : (n : ℕ) (area : List ℕ) → leastArea ≤ n → length area ≡ n → Holds [] (emptied n) area
 unfolding emptied recordsOf
 holds-nothing n area le whole =
     record {
@@ -52,7 +52,7 @@ holds-nothing n area le whole =
       whole = whole;
       keptIs = omega arith;
       lostIs = omega arith;
-      first = sym (ap recordsOf (take-nil (n / size - 1)));
+      first = sym (ap recordsOf (take-nil (n / recordSize - 1)));
       gap = λ most. absurd (omega arith);
     }
 
@@ -66,7 +66,7 @@ module _ (cs : List Change) (l : Log) (area : List ℕ) (c : Change) (h : Holds 
   more : length cs′ ≡ length cs + 1
   more = length-append cs (c ∷ [])
 
-  fits : size * (l .kept) + size ≤ length area
+  fits : recordSize * (l .kept) + recordSize ≤ length area
   fits = omega (arith, h .keptIs, h .whole, h .enough)
 
   abbrev HoldsNow : Logged → Type 0
@@ -78,7 +78,7 @@ module _ (cs : List Change) (l : Log) (area : List ℕ) (c : Change) (h : Holds 
   keep e =
       let lt : l .kept + 1 < R l = ltb-true (l .kept + 1) (R l) e in
       let few : length cs + 1 ≤ R l - 1 = omega (arith, h .keptIs) in
-      let next : size * (l .kept + 1) ≡ size * (l .kept) + size = omega arith in
+      let next : recordSize * (l .kept + 1) ≡ recordSize * (l .kept) + recordSize = omega arith in
       rw (e, addChange)
       (record {
         enough = h .enough;
@@ -103,16 +103,14 @@ module _ (cs : List Change) (l : Log) (area : List ℕ) (c : Change) (h : Holds 
   lose e =
       let le : R l ≤ l .kept + 1 = ltb-false (l .kept + 1) (R l) e in
       let many : R l - 1 ≤ length cs = omega (arith, h .keptIs) in
-      let lost = oneMoreLost (l .lost) in
-      let whole = length-gap (c .tick) lost in
       rw (e, addChange)
       (record {
         enough = h .enough;
-        whole = length-place (l .kept) (gapRecord (c .tick) lost) area whole fits ∙ h .whole;
+        whole = length-place (l .kept) _ area (length-gap _ _) fits ∙ h .whole;
         keptIs = omega (arith, more, h .keptIs);
         lostIs = omega (arith, more, h .lostIs, one-more-is (l .lost) (omega (arith, h .lostIs)));
-        first = rw (place-before (l .kept) (gapRecord (c .tick) lost) area whole fits, take-append-le, h .first);
-        gap = λ _. rw (place-at (l .kept) (gapRecord (c .tick) lost) area whole fits, h .first, take-append-le, last-snoc);
+        first = rw (place-before (l .kept) _ area (length-gap _ _) fits, take-append-le, h .first);
+        gap = λ _. rw (place-at (l .kept) _ area (length-gap _ _) fits, h .first, take-append-le, last-snoc);
       })
 
   -- One change more: the log then holds the longer list.
@@ -132,7 +130,7 @@ records-tell cs l area h = go (ltb (length cs) (R l)) refl
     go true e = rw (eq-eqb (l .lost) 0 (omega (arith, h .lostIs, ltb-true (length cs) (R l) e)), e, records, history)
         (h .first ∙ ap recordsOf (take-all (R l - 1) cs (omega (arith, ltb-true (length cs) (R l) e))))
     go false e = rw (ne-eqb (l .lost) 0 (λ z. omega (arith, h .lostIs, h .enough, ltb-false (length cs) (R l) e)), e, records, history)
-        (let next : size * (l .kept + 1) ≡ size * (l .kept) + size = omega arith in
+        (let next : recordSize * (l .kept + 1) ≡ recordSize * (l .kept) + recordSize = omega arith in
         rw (next, ← h .lostIs) (h .gap (ltb-false (length cs) (R l) e)))
 
 -- ---- the invariant

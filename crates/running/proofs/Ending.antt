@@ -2,6 +2,7 @@
 -- Assumes nothing.
 use Prim.Native.Nat.{ℕ, zero, suc, _+_, _-_, _≤_, _<_}
 use native.Mathlib.Omega.{arith}
+use native.Mathlib.Nat.{le-trans}
 use mathlib.Core.Path.{_≡_, refl, sym, _∙_}
 use mathlib.Core.Logic.{_≢_}
 use mathlib.Core.Bool.{Bool, true, false, not, true≢false}
@@ -18,7 +19,7 @@ use Rattle.running.specs.declared.How.{How}
 use Rattle.running.specs.declared.How.the-variants.{Holds, Ends, GoesOn}
 use Rattle.running.specs.declared.Step.{Step}
 use Rattle.running.specs.declared.Ran.{Ran}
-use Rattle.running.specs.Running.{allFree, counter, busy, withOutputs, waiting, stopped, holds, ends, onward, runLine, isState, counted, stops, waits, follow, step, runDue, most, start, tick, ticks}
+use Rattle.running.specs.Running.{allFree, counter, isBusy, isFree, withOutputs, waiting, stopped, holds, ends, onward, runLine, isForOrNext, counted, stops, rests, isHeld, follow, step, runDue, most, start, tick, ticks}
 
 -- ---- at most 400 lines
 
@@ -35,11 +36,11 @@ follow-lines b GoesOn n r go le k = k r
 due-lines : (p : List ℕ) (left n : ℕ) (r : Run) → runDue p left n r .lines ≤ n + left
 unfolding runDue
 due-lines p zero n r =
-    if-case (λ (x : Ran). x .lines ≤ n + 0) (isState (lineAt p (r .line)))
-    (λ _. follow-lines (n + 0) (step p r .how) n (step p r .run) _ (omega arith) (λ s. omega arith)) (λ _. omega arith)
+    if-case (λ (x : Ran). x .lines ≤ n + 0) (isForOrNext (lineAt p (r .line))) (λ _. omega arith)
+    (λ _. follow-lines (n + 0) (step p r .how) n (step p r .run) _ (omega arith) (λ s. omega arith))
 due-lines p (suc left) n r =
     let one : counted (lineAt p (r .line)) ≤ 1 = counted-one (lineAt p (r .line)) in
-    follow-lines (n + suc left) (step p r .how) _ (step p r .run) _ (omega arith) (λ s. omega (arith, due-lines p left (n + counted (lineAt p (r .line))) s))
+    follow-lines (n + suc left) (step p r .how) _ (step p r .run) _ (omega arith) (λ s. le-trans (due-lines p left _ s) (omega arith))
 
 pub start-lines : (p : List ℕ) (k o : ℕ) → start p k o .lines ≤ 400
 unfolding start
@@ -49,7 +50,7 @@ pub tick-lines : (p : List ℕ) (r : Run) → tick p r .lines ≤ 400
 unfolding tick
 tick-lines p r =
     if-case (λ (x : Ran). x .lines ≤ 400) (not (r .on)) (λ _. omega arith) λ _.
-    if-case (λ (x : Ran). x .lines ≤ 400) (ltb 1 (r .wait)) (λ _. omega arith) λ _.
+    if-case (λ (x : Ran). x .lines ≤ 400) (isHeld r) (λ _. omega arith) λ _.
     follow-lines 400 (onward r .how) 0 (onward r .run) _ (omega arith) (λ s. omega (arith, due-lines p most 0 s))
 
 -- ---- an event exactly at the end
@@ -90,10 +91,10 @@ line-tell : (p : List ℕ) (l : Line) (r : Run) → r .on ≡ true → Tells (ru
 unfolding runLine
 line-tell p (State o t) r on = if-case Tells (eqb t 0) (λ _. ends-tell 11 _ on (omega arith)) (λ _. holds-tell _ on)
 line-tell p (For c n) r on =
-    if-case Tells (busy r c) (λ _. ends-tell 6 r on (omega arith)) λ _.
+    if-case Tells (isBusy r c) (λ _. ends-tell 6 r on (omega arith)) λ _.
     if-case Tells (eqb (nextAfter p c (r .line)) 200) (λ _. ends-tell 7 r on (omega arith)) (λ _. onward-tell _ on)
 line-tell p (Next c) r on =
-    if-case Tells (not (busy r c)) (λ _. ends-tell 8 r on (omega arith)) λ _.
+    if-case Tells (isFree r c) (λ _. ends-tell 8 r on (omega arith)) λ _.
     if-case Tells (ltb 0 (counter r c .count - 1)) (λ _. goes-tell _ on refl) (λ _. onward-tell _ on)
 
 step-tell : (p : List ℕ) (r : Run) → r .on ≡ true → Tells (step p r)
@@ -114,9 +115,8 @@ due-told : (p : List ℕ) (left n : ℕ) (r : Run) → r .on ≡ true → Told (
 unfolding runDue
 due-told p zero n r on =
     let t = step-tell p r on in
-    if-case Told (isState (lineAt p (r .line)))
-    (λ _. follow-told (step p r .how) n (step p r .run) _ (t .running) (t .event) (λ s _. stops-told 13 n s (omega arith)))
-    (λ _. stops-told 13 n r (omega arith))
+    if-case Told (isForOrNext (lineAt p (r .line))) (λ _. stops-told 13 n r (omega arith))
+    (λ _. follow-told (step p r .how) n (step p r .run) _ (t .running) (t .event) (λ s k. goesOn k refl))
 due-told p (suc left) n r on =
     let t = step-tell p r on in
     follow-told (step p r .how) _ (step p r .run) _ (t .running) (t .event) (λ s k. due-told p left _ s k)
@@ -131,6 +131,6 @@ pub tick-told : (p : List ℕ) (r : Run) → r .on ≡ true → Told (tick p r)
 unfolding tick
 tick-told p r on =
     if-case Told (not (r .on)) (λ e. absurd (true≢false (sym (rw on at e)))) λ _.
-    if-case Told (ltb 1 (r .wait)) (λ _. goesOn on refl) λ _.
+    if-case Told (isHeld r) (λ _. goesOn on refl) λ _.
     let t = onward-tell r on in
     follow-told (onward r .how) 0 (onward r .run) _ (t .running) (t .event) (λ s k. due-told p most 0 s k)

@@ -22,7 +22,7 @@ use Rattle.running.specs.declared.How.{How}
 use Rattle.running.specs.declared.How.the-variants.{Holds, Ends, GoesOn}
 use Rattle.running.specs.declared.Step.{Step}
 use Rattle.running.specs.declared.Ran.{Ran}
-use Rattle.running.specs.Running.{free, allFree, counter, busy, atLine, withOutputs, waiting, withCounter, stopped, holds, ends, goesTo, onward, atLeastOne, runLine, isState, counted, stops, waits, follow, step, runDue, most, start, tick}
+use Rattle.running.specs.Running.{free, allFree, counter, isBusy, isFree, atLine, withOutputs, waiting, withCounter, stopped, holds, ends, goesTo, onward, atLeastOne, runLine, isForOrNext, counted, stops, rests, isHeld, follow, step, runDue, most, start, tick}
 use Rattle.running.specs.Invariant.{RunInvariant}
 
 -- ---- counters
@@ -113,13 +113,13 @@ unfolding runLine
 line-going p (State o t) r q g =
     if-case GoingStep (eqb t 0) (λ _. ends-going 11 _ (outputs-going _ r g)) (λ _. record { going = state-going _ t r (q .range) g })
 line-going p (For c n) r q g =
-    if-case GoingStep (busy r c) (λ _. ends-going 6 r g) λ _.
+    if-case GoingStep (isBusy r c) (λ _. ends-going 6 r g) λ _.
     if-case GoingStep (eqb (nextAfter p c (r .line)) 200) (λ _. ends-going 7 r g) λ e.
     let found : nextAfter p c (r .line) ≢ 200 = eqb-false _ _ e in
     let lt = next-is-later p c (r .line) (g .inProgram) found in
     onward-going _ (counter-going c _ r lt (at-least-one n (q .range .1)) g)
 line-going p (Next c) r q g =
-    if-case GoingStep (not (busy r c)) (λ _. ends-going 8 r g) λ _.
+    if-case GoingStep (isFree r c) (λ _. ends-going 8 r g) λ _.
     let l : counter r c .line < 199 = g .forLine (c - 1) in
     let n : counter r c .count ≤ 9999 = g .count (c - 1) in
     if-case GoingStep (ltb 0 (counter r c .count - 1))
@@ -140,9 +140,9 @@ follow-kept GoesOn n r go g k = k r g
 due-kept : (p : List ℕ) (left n : ℕ) (r : Run) → Going r → RunInvariant (runDue p left n r .run)
 unfolding runDue
 due-kept p zero n r g =
-    if-case (λ (x : Ran). RunInvariant (x .run)) (isState (lineAt p (r .line)))
-    (λ _. follow-kept (step p r .how) n (step p r .run) _ (step-going p r g .going) (λ s k. stopped-kept s (k .inProgram)))
+    if-case (λ (x : Ran). RunInvariant (x .run)) (isForOrNext (lineAt p (r .line)))
     (λ _. stopped-kept r (g .inProgram))
+    (λ _. follow-kept (step p r .how) n (step p r .run) _ (step-going p r g .going) (λ s k. still k))
 due-kept p (suc left) n r g =
     follow-kept (step p r .how) _ (step p r .run) _ (step-going p r g .going) (λ s k. due-kept p left _ s k)
 
@@ -158,6 +158,6 @@ unfolding tick
 tick-kept p r i =
     if-case (λ (x : Ran). RunInvariant (x .run)) (not (r .on)) (λ _. i) λ e.
     let g : Going r = record { on = not-false (r .on) e; inProgram = i .lineInProgram; forLine = i .forLine; count = i .count; time = i .time } in
-    if-case (λ (x : Ran). RunInvariant (x .run)) (ltb 1 (r .wait))
+    if-case (λ (x : Ran). RunInvariant (x .run)) (isHeld r)
     (λ _. still (record { on = g .on; inProgram = g .inProgram; forLine = g .forLine; count = g .count; time = omega (arith, g .time) }))
     (λ _. follow-kept (onward r .how) 0 (onward r .run) _ (onward-going r g .going) (λ s k. due-kept p most 0 s k))

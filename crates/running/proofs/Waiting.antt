@@ -11,14 +11,17 @@ use borrow.Author.Tests.{lt-ltb, le-ltb}
 use Rattle.formats.specs.Checks.{if_then_else_}
 use Rattle.running.specs.declared.Run.{Run}
 use Rattle.running.specs.declared.Ran.{Ran}
-use Rattle.running.specs.Running.{waiting, waits, onward, follow, runDue, most, tick, ticks}
+use Rattle.running.specs.Running.{waiting, rests, onward, follow, runDue, most, isHeld, tick, ticks}
 
 -- ---- "the next line falls due on the T-th tick taken unpaused"
 
 -- Before that tick a run that waits for it only waits: outputs, line and counters stay.
-pub tick-before : (p : List ℕ) (r : Run) → r .on ≡ true → 1 < r .wait → tick p r ≡ waits 0 (waiting (r .wait - 1) r)
+held-before : (r : Run) → 1 < r .wait → isHeld r ≡ true
+held-before r lt = lt-ltb 1 (r .wait) lt
+
+pub tick-before : (p : List ℕ) (r : Run) → r .on ≡ true → 1 < r .wait → tick p r ≡ rests 0 (waiting (r .wait - 1) r)
 unfolding tick
-tick-before p r on lt = rw (on, lt-ltb 1 (r .wait) lt)
+tick-before p r on lt = rw (on, held-before r lt)
 
 pub held-until : (p : List ℕ) (n : ℕ) (r : Run) → r .on ≡ true → n < r .wait → ticks p n r ≡ waiting (r .wait - n) r
 unfolding ticks
@@ -35,7 +38,7 @@ due-at p r on le = rw (on, le-ltb 1 (r .wait) le)
 
 -- ---- ticks one after the other
 
-tick-off : (p : List ℕ) (r : Run) → r .on ≡ false → tick p r ≡ waits 0 r
+tick-off : (p : List ℕ) (r : Run) → r .on ≡ false → tick p r ≡ rests 0 r
 unfolding tick
 tick-off p r e = rw e
 

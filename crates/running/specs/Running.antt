@@ -28,8 +28,11 @@ allFree = replicate 4 free
 abbrev pub counter : Run → ℕ → Counter
 counter r c = getD (r .counters) (c - 1) free
 
-abbrev pub busy : Run → ℕ → Bool
-busy r c = not (eqb (counter r c .count) 0)
+abbrev pub isBusy : Run → ℕ → Bool
+isBusy r c = ltb 0 (counter r c .count)
+
+abbrev pub isFree : Run → ℕ → Bool
+isFree r c = eqb (counter r c .count) 0
 
 -- ---- one part of a run altered
 
@@ -65,7 +68,7 @@ goesTo k r = record { run = atLine k r; how = GoesOn }
 unfoldable pub onward : Run → Step
 onward r = if ltb (r .line) 199 then goesTo (r .line + 1) r else ends 9 r
 
--- 01: "Count 0000 counts as 0001"
+-- 01: "Count 0000 counts as 0001 (*house*)."
 abbrev pub atLeastOne : ℕ → ℕ
 atLeastOne n = if eqb n 0 then 1 else n
 
@@ -77,39 +80,40 @@ runLine p (State outputs time) r =
     else holds (waiting time (withOutputs outputs r))
 -- "For C: busy counter, event 006; else no Next C on any later line, 007; else the counter takes the count and is busy."
 runLine p (For c count) r =
-    if busy r c then ends 6 r
+    if isBusy r c then ends 6 r
     else if eqb (nextAfter p c (r .line)) 200 then ends 7 r
     else onward (withCounter c (record { count = atLeastOne count; line = r .line }) r)
 -- "Next C: counter not busy, 008, even if a For stands above (a start inside a loop). Else take one off; above zero, go to the
 -- line after its For; at zero, free it and go on."
 runLine p (Next c) r =
-    if not (busy r c) then ends 8 r
-    else let left = counter r c .count - 1 in let loop = counter r c .line in
-    if ltb 0 left then goesTo (loop + 1) (withCounter c (record { count = left; line = loop }) r)
+    let left = counter r c .count - 1 in
+    let loop = counter r c .line in
+    if isFree r c then ends 8 r
+    else if ltb 0 left then goesTo (loop + 1) (withCounter c (record { count = left; line = loop }) r)
     else onward (withCounter c free r)
 
 -- ---- the lines that fall due in one call
 
-abbrev pub isState : Line → Bool
-isState (State outputs time) = true
-isState (For c count) = false
-isState (Next c) = false
+-- the lines that a call counts
+abbrev pub isForOrNext : Line → Bool
+isForOrNext (State outputs time) = false
+isForOrNext (For c count) = true
+isForOrNext (Next c) = true
 
--- For and Next lines are counted, State lines are not
 abbrev pub counted : Line → ℕ
-counted l = if isState l then 0 else 1
+counted l = if isForOrNext l then 1 else 0
 
--- the program stops with an event, or with none (0), after n lines
+-- the program has stopped with an event, after n lines
 abbrev pub stops : ℕ → ℕ → Run → Ran
 stops event n r = record { run = stopped r; event = event; lines = n }
 
--- the program waits for a tick
-abbrev pub waits : ℕ → Run → Ran
-waits n r = record { run = r; event = 0; lines = n }
+-- nothing more falls due in this call, after n lines
+abbrev pub rests : ℕ → Run → Ran
+rests n r = record { run = r; event = 0; lines = n }
 
--- what follows a line or a wait, n lines having been run: `go` runs the line that falls due next
+-- what follows, after n lines: the State line is held, the program stops, or `go` runs the line that falls due next
 abbrev pub follow : How → ℕ → Run → (Run → Ran) → Ran
-follow Holds n r go = waits n r
+follow Holds n r go = rests n r
 follow (Ends event) n r go = stops event n r
 follow GoesOn n r go = go r
 
@@ -117,13 +121,13 @@ follow GoesOn n r go = go r
 unfoldable pub step : List ℕ → Run → Step
 step p r = runLine p (lineAt p (r .line)) r
 
--- 01: "One call runs at most 400 For and Next lines. Were a 401st due, the program stops there with event 013. A For or Next
--- that ends in 006, 007 or 008 counts as run; the one stopped by 013 does not".
--- Here `left` more may be run, and n were.
+-- 01: "One call runs at most 400 For and Next lines. Were a 401st due, the program stops there with event 013 (*house*). A For or
+-- Next that ends in 006, 007 or 008 counts as run; the one stopped by 013 does not".
+-- Here `left` more may be run, and n were. (After a State line, the last line of a call, none falls due.)
 unfoldable pub runDue : List ℕ → ℕ → ℕ → Run → Ran
 runDue p zero n r =
-    if isState (lineAt p (r .line)) then follow (step p r .how) n (step p r .run) (λ s. stops 13 n s)
-    else stops 13 n r
+    if isForOrNext (lineAt p (r .line)) then stops 13 n r
+    else follow (step p r .how) n (step p r .run) (λ s. rests n s)
 runDue p (suc left) n r =
     let m = n + counted (lineAt p (r .line)) in
     follow (step p r .how) m (step p r .run) (λ s. runDue p left m s)
@@ -136,11 +140,15 @@ most = 400
 unfoldable pub start : List ℕ → ℕ → ℕ → Ran
 start p k outputs = runDue p most 0 (record { on = true; line = k; outputs = outputs; wait = 0; counters = allFree })
 
--- One tick taken unpaused: a program that waits for no other tick goes on to the next line.
+-- the next line falls due on a later tick
+abbrev pub isHeld : Run → Bool
+isHeld r = ltb 1 (r .wait)
+
+-- One tick taken unpaused: a State line is held on, or the program goes on to the line after it.
 unfoldable pub tick : List ℕ → Run → Ran
 tick p r =
-    if not (r .on) then waits 0 r
-    else if ltb 1 (r .wait) then waits 0 (waiting (r .wait - 1) r)
+    if not (r .on) then rests 0 r
+    else if isHeld r then rests 0 (waiting (r .wait - 1) r)
     else follow (onward r .how) 0 (onward r .run) (λ s. runDue p most 0 s)
 
 -- n ticks taken unpaused

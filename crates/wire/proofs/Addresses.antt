@@ -13,6 +13,7 @@ use Rattle.formats.specs.Checks.{if_then_else_, Res, refused, passed, _>>=_, _>
 use Rattle.formats.specs.Digits.{digits, digitChar, shown, numberIn}
 use Rattle.formats.proofs.Checks.{if-case, both-true, below, Ok, ok-passed, ok-guard}
 use Rattle.formats.proofs.Characters.{shown-back}
+use Rattle.lines.specs.Line.{part}
 use Rattle.wire.specs.Command.{char, isStepwise, rest, addressIn}
 use Rattle.wire.specs.Naming.{Names, byDigits, byI, byD}
 
@@ -24,13 +25,13 @@ digit-no-letter v lt =
     (not-true _ (p .0), not-true _ (p .1))
 
 -- the characters x y, an address and more
-module _ (x y last k : ℕ) (inside : k ≤ 216) (more : List ℕ) where
+module _ (x y next k : ℕ) (inside : k ≤ 216) (more : List ℕ) where
   abbrev after : List ℕ → List ℕ
   after a = x ∷ y ∷ (a ++ more)
 
   -- the address that a command names, and what stands behind it
   pub record Found (a : List ℕ) : Type 0 where
-    pub address : addressIn last (after a) ≡ passed k
+    pub address : addressIn next (after a) ≡ passed k
     pub behind : rest (after a) ≡ more
     pub three : leb 3 (length (after a)) ≡ true
     pub long : (isStepwise (after a) || leb 5 (length (after a))) ≡ true
@@ -47,19 +48,19 @@ module _ (x y last k : ℕ) (inside : k ≤ 216) (more : List ℕ) where
         long = rw (n .0, n .1, le-leb 5 (length (after (shown 10 3 k))) (omega arith));
       }
 
-  pub found : {a : List ℕ} → Names last k a → Found a
+  pub found : {a : List ℕ} → Names next k a → Found a
   unfolding addressIn text _>>_ _orElse_
   found (byDigits e) = rw e found-digits
-  found (byI e n) = rw e (record { address = rw (le-leb (last + 1) 216 (omega arith)) (ap passed (sym n)); behind = refl; three = le-leb 3 (suc (suc (suc (length more)))) (omega arith); long = refl })
-  found (byD e n) = rw e (record { address = rw (le-leb 1 last (omega arith)) (ap passed (omega arith)); behind = refl; three = le-leb 3 (suc (suc (suc (length more)))) (omega arith); long = refl })
+  found (byI e n) = rw e (record { address = rw (← n, le-leb k 216 inside); behind = refl; three = le-leb 3 (suc (suc (suc (length more)))) (omega arith); long = refl })
+  found (byD e n) = rw e (record { address = rw (le-leb 2 next (omega arith)) (ap passed (omega arith)); behind = refl; three = le-leb 3 (suc (suc (suc (length more)))) (omega arith); long = refl })
 
 -- Every address that passes the check lies in 000-216.
-pub address-inside : (last : ℕ) (cs : List ℕ) → last ≤ 216 → Ok (λ k. k ≤ 216) (addressIn last cs)
+pub address-inside : (next : ℕ) (cs : List ℕ) → next ≤ 217 → Ok (λ k. k ≤ 216) (addressIn next cs)
 unfolding addressIn
-address-inside last cs le =
+address-inside next cs le =
     if-case (Ok (λ k. k ≤ 216)) (eqb (char cs 2) (code "I"))
-    (λ _. ok-guard (λ k. k ≤ 216) (leb (last + 1) 216) 4 _ λ e. leb-true (last + 1) 216 e) λ _.
+    (λ _. ok-guard (λ k. k ≤ 216) (leb next 216) 4 _ λ e. leb-true next 216 e) λ _.
     if-case (Ok (λ k. k ≤ 216)) (eqb (char cs 2) (code "D"))
-    (λ _. ok-guard (λ k. k ≤ 216) (leb 1 last) 4 _ λ _. omega arith) λ _.
-    ok-passed (λ k. k ≤ 216) (numberIn 10 4 (take 3 (drop 2 cs))) _ λ k _.
+    (λ _. ok-guard (λ k. k ≤ 216) (leb 2 next) 4 _ λ _. omega arith) λ _.
+    ok-passed (λ k. k ≤ 216) (numberIn 10 4 (part 2 3 cs)) _ λ k _.
     ok-guard (λ k. k ≤ 216) (leb k 216) 4 _ λ e. leb-true k 216 e

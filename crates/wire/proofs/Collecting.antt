@@ -13,7 +13,7 @@ use native.Mathlib.Numerals.{add-one}
 use Rattle.formats.specs.Checks.{if_then_else_}
 use Rattle.formats.proofs.Checks.{if-case}
 use Rattle.wire.specs.declared.Wire.{Wire}
-use Rattle.wire.specs.Collecting.{room, kept, tooLong, collect, cleared}
+use Rattle.wire.specs.Collecting.{mostChars, keep, tooLong, collect, cleared}
 use Rattle.wire.specs.Invariant.{WireInvariant}
 
 -- the characters kept
@@ -24,22 +24,22 @@ pub collect-kept : (x : ℕ) (w : Wire) → WireInvariant w → WireInvariant (c
 unfolding collect
 collect-kept x w i =
     if-case WireInvariant (eqb x 32) (λ _. i) λ _.
-    if-case WireInvariant (ltb (w .len) room)
+    if-case WireInvariant (ltb (w .len) mostChars)
     (λ e.
     record {
       whole = length-set (w .chars) (w .len) x ∙ i .whole;
-      fits = omega (arith, ltb-true (w .len) room e);
-      lastRead = i .lastRead;
-      lastWrite = i .lastWrite;
+      fits = omega (arith, ltb-true (w .len) mostChars e);
+      nextRead = i .nextRead;
+      nextWrite = i .nextWrite;
     })
-    (λ _. record { whole = i .whole; fits = i .fits; lastRead = i .lastRead; lastWrite = i .lastWrite })
+    (λ _. record { whole = i .whole; fits = i .fits; nextRead = i .nextRead; nextWrite = i .nextWrite })
 
 pub cleared-kept : (w : Wire) → WireInvariant w → WireInvariant (cleared w)
-cleared-kept w i = record { whole = i .whole; fits = omega arith; lastRead = i .lastRead; lastWrite = i .lastWrite }
+cleared-kept w i = record { whole = i .whole; fits = omega arith; nextRead = i .nextRead; nextWrite = i .nextWrite }
 
 -- A character for which there is room stands behind those kept before, as received.
-pub kept-last : (x : ℕ) (w : Wire) → WireInvariant w → eqb x 32 ≡ false → w .len < room → collected (collect x w) ≡ collected w ++ (x ∷ [])
+pub kept-last : (x : ℕ) (w : Wire) → WireInvariant w → eqb x 32 ≡ false → w .len < mostChars → collected (collect x w) ≡ collected w ++ (x ∷ [])
 unfolding collect
 kept-last x w i other lt =
-    rw (other, lt-ltb (w .len) room lt, add-one (w .len))
+    rw (other, lt-ltb (w .len) mostChars lt, add-one (w .len))
     (take-suc-set (w .chars) (w .len) x (omega (arith, i .whole)))

@@ -1,28 +1,28 @@
 -- While a program runs or is paused, a command that passes the checks is a read, sets the parameter, or is one of the special
 -- commands stop, pause and continue.
 -- Assumes nothing.
-use mathlib.Core.Path.{_≡_, refl, sym, _∙_}
+use mathlib.Core.Path.{_≡_, refl}
 use mathlib.Core.Logic.{_≢_}
 use Prim.Native.Nat.{ℕ}
-use mathlib.Core.Bool.{Bool, true, false, _||_, true≢false}
+use mathlib.Core.Bool.{Bool, true, false, _||_}
 use mathlib.Core.List.{List}
-use lib.Dec.{eqb, leb, T}
-use borrow.Author.Tests.{eqb-true, leb-true}
-use native.Mathlib.Omega.{arith}
+use lib.Dec.{eqb}
+use borrow.Author.Tests.{eqb-true}
 use Rattle.formats.specs.Checks.{if_then_else_, Res, refused, passed, _>>=_, _>>_, _orElse_}
+use Rattle.formats.specs.Digits.{dIn}
 use Rattle.formats.proofs.Checks.{if-case, either-true, Ok, ok-bind, ok-passed, ok-guard}
-use Rattle.lines.specs.declared.Line.{Line}
 use Rattle.wire.specs.declared.Wire.{Wire}
 use Rattle.wire.specs.declared.Mode as M
 use Rattle.wire.specs.declared.Mode.{Mode}
 use Rattle.wire.specs.declared.Special.{Special}
 use Rattle.wire.specs.declared.Special.the-variants.{Stop, Pause, Start, Continue, StartAt, Execute, Load, Save}
-use Rattle.wire.specs.declared.Deed.{Deed}
-use Rattle.wire.specs.declared.Deed.the-variants.{Read, PutLine, PutOutputs, PutParameter, Command}
+use Rattle.wire.specs.declared.Data.{Data}
+use Rattle.wire.specs.declared.Data.the-variants.{WriteLine, WriteOutputs, WriteParameter, WriteSpecial}
 use Rattle.wire.specs.declared.Asked.{Asked}
+use Rattle.wire.specs.declared.Asked.the-variants.{Read, Write}
 use Rattle.wire.specs.Collecting.{sent}
 use Rattle.wire.specs.Special.{allowed, inReach, specialOf}
-use Rattle.wire.specs.Command.{isRead, isWritable, isOpen, rest, dIn, addressIn, commandIn, parameterDeed, writeDeed, readCommand, writeCommand, command}
+use Rattle.wire.specs.Command.{isRead, isWritable, isOpen, rest, addressIn, specialIn, dataIn, readCommand, writeCommand, command}
 
 abbrev pub quietSpecial : Special → Bool
 quietSpecial Stop = true
@@ -34,12 +34,15 @@ quietSpecial Execute = false
 quietSpecial Load = false
 quietSpecial Save = false
 
-abbrev pub quiet : Deed → Bool
-quiet Read = true
-quiet (PutLine l) = false
-quiet (PutOutputs x) = false
-quiet (PutParameter v) = true
-quiet (Command s) = quietSpecial s
+abbrev pub quietData : Data → Bool
+quietData (WriteLine l) = false
+quietData (WriteOutputs x) = false
+quietData (WriteParameter v) = true
+quietData (WriteSpecial s) = quietSpecial s
+
+abbrev pub quiet : Asked → Bool
+quiet (Read k) = true
+quiet (Write k x) = quietData x
 
 -- a column of the table other than Stop
 special-quiet : (s : Special) (mode : Mode) → mode ≢ M.the-variants.Stop → allowed s mode ≡ true → quietSpecial s ≡ true
@@ -62,11 +65,11 @@ special-quiet Load M.the-variants.Auto ne e = e
 special-quiet Save M.the-variants.Pause ne e = e
 special-quiet Save M.the-variants.Auto ne e = e
 
-abbrev QuietDeed : Deed → Type 0
-QuietDeed d = quiet d ≡ true
+abbrev QuietData : Data → Type 0
+QuietData x = quietData x ≡ true
 
-abbrev QuietAsked : Asked → Type 0
-QuietAsked a = quiet (a .deed) ≡ true
+abbrev Quiet : Asked → Type 0
+Quiet q = quiet q ≡ true
 
 -- only 209 and 210 are open
 open-one : (mode : Mode) (k : ℕ) → mode ≢ M.the-variants.Stop → isOpen mode k ≡ true → (eqb k 209 || eqb k 210) ≡ true
@@ -75,29 +78,28 @@ open-one M.the-variants.Pause k ne e = e
 open-one M.the-variants.Auto k ne e = e
 
 module _ (mode : Mode) (parameter : ℕ) (runs : mode ≢ M.the-variants.Stop) where
-  command-in-quiet : (cs : List ℕ) → Ok QuietDeed (commandIn mode parameter cs)
-  unfolding commandIn
-  command-in-quiet cs =
-      ok-passed QuietDeed (dIn cs) _ λ n _. ok-passed QuietDeed (specialOf n) _ λ s _.
-      ok-guard QuietDeed (allowed s mode) 5 _ λ e. ok-guard QuietDeed (inReach s parameter) 4 _ λ _. special-quiet s mode runs e
+  special-in-quiet : (cs : List ℕ) → Ok QuietData (specialIn mode parameter cs)
+  unfolding specialIn
+  special-in-quiet cs =
+      ok-passed QuietData (dIn cs) _ λ n _. ok-passed QuietData (specialOf n) _ λ s _.
+      ok-guard QuietData (allowed s mode) 5 _ λ e. ok-guard QuietData (inReach s parameter) 4 _ λ _. special-quiet s mode runs e
 
-  parameter-quiet : (cs : List ℕ) → Ok QuietDeed (parameterDeed cs)
-  unfolding parameterDeed
-  parameter-quiet cs = ok-passed QuietDeed (dIn cs) _ λ v _. refl
+  parameter-quiet : (cs : List ℕ) → Ok QuietData (dIn cs >>= (λ v. passed (WriteParameter v)))
+  parameter-quiet cs = ok-passed QuietData (dIn cs) _ λ v _. refl
 
-  write-quiet : (k : ℕ) (cs : List ℕ) → isOpen mode k ≡ true → Ok QuietDeed (writeDeed mode parameter k cs)
-  unfolding writeDeed
+  write-quiet : (k : ℕ) (cs : List ℕ) → isOpen mode k ≡ true → Ok QuietData (dataIn mode parameter k cs)
+  unfolding dataIn
   write-quiet k cs e =
       either-true (eqb k 209) (eqb k 210) (open-one mode k runs e)
-      (λ f. rw (eqb-true k 209 f) (parameter-quiet cs)) (λ f. rw (eqb-true k 210 f) (command-in-quiet cs))
+      (λ f. rw (eqb-true k 209 f) (parameter-quiet cs)) (λ f. rw (eqb-true k 210 f) (special-in-quiet cs))
 
   -- The sentence at the top.
-  pub command-quiet : (w : Wire) → Ok (λ (a : Asked). quiet (a .deed) ≡ true) (command w mode parameter)
+  pub command-quiet : (w : Wire) → Ok (λ (q : Asked). quiet q ≡ true) (command w mode parameter)
   unfolding command readCommand writeCommand
   command-quiet w =
-      ok-guard QuietAsked _ 1 _ λ _. ok-guard QuietAsked _ 2 _ λ _.
-      if-case (Ok QuietAsked) (isRead (sent w))
-      (λ _. ok-passed QuietAsked (addressIn (w .lastread) (sent w)) _ λ k _. ok-guard QuietAsked _ 2 _ λ _. refl) λ _.
-      ok-passed QuietAsked (addressIn (w .lastwrite) (sent w)) _ λ k _.
-      ok-guard QuietAsked (isWritable k) 4 _ λ _. ok-guard QuietAsked (isOpen mode k) 5 _ λ e.
-      ok-bind QuietAsked QuietDeed (writeDeed mode parameter k (rest (sent w))) _ (write-quiet k (rest (sent w)) e) λ d q. q
+      ok-guard Quiet _ 1 _ λ _. ok-guard Quiet _ 2 _ λ _.
+      if-case (Ok Quiet) (isRead (sent w))
+      (λ _. ok-passed Quiet (addressIn (w .nextread) (sent w)) _ λ k _. ok-guard Quiet _ 2 _ λ _. refl) λ _.
+      ok-passed Quiet (addressIn (w .nextwrite) (sent w)) _ λ k _.
+      ok-guard Quiet (isWritable k) 4 _ λ _. ok-guard Quiet (isOpen mode k) 5 _ λ e.
+      ok-bind Quiet QuietData (dataIn mode parameter k (rest (sent w))) _ (write-quiet k (rest (sent w)) e) λ x q. q

@@ -3,31 +3,31 @@
 -- At most 32 characters are kept; a 33rd makes the command overlong until its 13."
 use Prim.Native.Nat.{ℕ, _+_, _-_}
 use Prim.Native.Char.{code}
-use mathlib.Core.Bool.{Bool, true, false, _&&_}
-use mathlib.Core.List.{List, [], _∷_, map}
+use mathlib.Core.Bool.{true, false, _&&_}
+use mathlib.Core.List.{List, map}
 use lib.ListN.{take, set}
 use lib.Dec.{leb, ltb, eqb}
 use Rattle.formats.specs.Checks.{if_then_else_}
 use Rattle.wire.specs.declared.Wire.{Wire}
 
--- the most characters kept
-abbrev pub room : ℕ
-room = 32
+abbrev pub mostChars : ℕ
+mostChars = 32
 
-abbrev pub kept : ℕ → Wire → Wire
-kept x w =
-    record { chars = set (w .chars) (w .len) x; len = w .len + 1; overlong = w .overlong; lastread = w .lastread; lastwrite = w .lastwrite }
+-- a character is kept as received
+abbrev pub keep : ℕ → Wire → Wire
+keep x w =
+    record { chars = set (w .chars) (w .len) x; len = w .len + 1; overlong = w .overlong; nextread = w .nextread; nextwrite = w .nextwrite }
 
 abbrev pub tooLong : Wire → Wire
-tooLong w = record { chars = w .chars; len = w .len; overlong = true; lastread = w .lastread; lastwrite = w .lastwrite }
+tooLong w = record { chars = w .chars; len = w .len; overlong = true; nextread = w .nextread; nextwrite = w .nextwrite }
 
--- a byte other than 13; the character is kept as received
+-- a byte other than 13
 unfoldable pub collect : ℕ → Wire → Wire
-collect x w = if eqb x 32 then w else if ltb (w .len) room then kept x w else tooLong w
+collect x w = if eqb x 32 then w else if ltb (w .len) mostChars then keep x w else tooLong w
 
 -- "then collection starts empty"
 abbrev pub cleared : Wire → Wire
-cleared w = record { chars = w .chars; len = 0; overlong = false; lastread = w .lastread; lastwrite = w .lastwrite }
+cleared w = record { chars = w .chars; len = 0; overlong = false; nextread = w .nextread; nextwrite = w .nextwrite }
 
 abbrev pub capital : ℕ → ℕ
 capital c = if leb (code "a") c && leb c (code "z") then c - 32 else c

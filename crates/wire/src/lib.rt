@@ -2,15 +2,17 @@
 // So far the types and, in specs/, the definitions.
 use lines::Line;
 
-// What is collected, and the last address of each direction.
+// What is collected, and where each direction stands.
 pub struct Wire {
     // the first `len` of these are the characters kept, as received
     pub chars: [u8; 32],
     pub len: usize,
     // a 33rd character came
     pub overlong: bool,
-    pub lastread: u8,
-    pub lastwrite: u8,
+    // the last address read, plus one: what I means in a read
+    pub nextread: u8,
+    // the last address written, plus one: what I means in a write
+    pub nextwrite: u8,
 }
 
 // The three states of the table of special commands.
@@ -32,16 +34,16 @@ pub enum Special {
     Save,
 }
 
-// What a command that passes all checks asks for.
-pub enum Deed {
-    Read,
-    PutLine(Line),
-    PutOutputs(u8),
-    PutParameter(u8),
-    Command(Special),
+// The data of a write that passes all checks.
+pub enum Data {
+    WriteLine(Line),
+    WriteOutputs(u8),
+    WriteParameter(u8),
+    WriteSpecial(Special),
 }
 
-pub struct Asked {
-    pub address: u8,
-    pub deed: Deed,
+// What a command that passes all checks asks for: an address to read, or one to write and its data.
+pub enum Asked {
+    Read(u8),
+    Write(u8, Data),
 }
