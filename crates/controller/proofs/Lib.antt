@@ -4,3 +4,4 @@ pub mod Errors
 pub mod Logging
 pub mod Moving
 pub mod Lines
+pub mod Wires

@@ -5,3 +5,4 @@ pub mod LogTells
 pub mod Undisturbed
 pub mod ByTheRules
 pub mod ReadsBack
+pub mod Received

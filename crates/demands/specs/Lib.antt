@@ -3,3 +3,4 @@ pub mod Histories
 pub mod Changes
 pub mod Undisturbed
 pub mod ReadBack
+pub mod Received

@@ -8,7 +8,7 @@ use mathlib.Core.List.{List, [], _∷_, _++_}
 use lib.ListN.{length, take, set, length-set}
 use lib.Seq.{take-suc-set}
 use lib.Dec.{eqb, ltb}
-use borrow.Author.Tests.{ltb-true, lt-ltb}
+use borrow.Author.Tests.{ltb-true, lt-ltb, le-ltb}
 use native.Mathlib.Numerals.{add-one}
 use Rattle.formats.specs.Checks.{if_then_else_}
 use Rattle.formats.proofs.Checks.{if-case}
@@ -43,3 +43,18 @@ unfolding collect
 kept-last x w i other lt =
     rw (other, lt-ltb (w .len) mostChars lt, add-one (w .len))
     (take-suc-set (w .chars) (w .len) x (omega (arith, i .whole)))
+
+-- and the command is not overlong for it
+pub kept-short : (x : ℕ) (w : Wire) → eqb x 32 ≡ false → w .len < mostChars → collect x w .overlong ≡ w .overlong
+unfolding collect
+kept-short x w other lt = rw (other, lt-ltb (w .len) mostChars lt)
+
+-- A character for which there is no room makes it overlong, and alters nothing else.
+pub kept-none : (x : ℕ) (w : Wire) → eqb x 32 ≡ false → mostChars ≤ w .len → collect x w ≡ tooLong w
+unfolding collect
+kept-none x w other le = rw (other, le-ltb (w .len) mostChars le)
+
+-- Byte 32 is dropped.
+pub space-dropped : (x : ℕ) (w : Wire) → eqb x 32 ≡ true → collect x w ≡ w
+unfolding collect
+space-dropped x w e = rw e
