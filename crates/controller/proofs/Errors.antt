@@ -2,18 +2,18 @@
 -- Assumes nothing.
 use mathlib.Core.Path.{_≡_, refl, _∙_}
 use Prim.Native.Nat.{ℕ}
-use mathlib.Core.List.{List}
 use lib.ListN.{length}
 use borrow.Author.Tests.{eq-eqb}
-use Rattle.formats.specs.Checks.{Res, refused}
+use Rattle.formats.specs.Checks.{refused}
 use Rattle.formats.specs.Digits.{errorText}
 use Rattle.controller.specs.declared.Controller.{Controller}
 use Rattle.controller.specs.Controller.{withOut, Areas}
 use Rattle.controller.specs.Deeds.{over, ended, emptyCollection, asked, answer, writing}
 use Rattle.controller.specs.Deeds as Deeds
 use Rattle.controller.specs.Refusals.{byte}
-use Rattle.controller.specs.Calls.{After, does, logged, call}
+use Rattle.controller.specs.Calls.{After, does, call}
 use Rattle.controller.proofs.Refusals.{accepted-call}
+use Rattle.controller.proofs.Logging.{aByte, logged-is}
 
 -- what an error reply leaves: the collection is empty, and the reply stands at the start of its area
 abbrev pub afterError : ℕ → Controller → Areas → After
@@ -25,6 +25,7 @@ afterError e c a = record {
 -- An error reply changes nothing but the emptied collection.
 pub error-changes-nothing : (c : Controller) (a : Areas) (e : ℕ) → call (byte 13) c a .answer .refusal ≡ 0 → asked c ≡ refused e
     → call (byte 13) c a ≡ afterError e c a
-unfolding does Deeds.byte answer writing logged
+unfolding does Deeds.byte answer writing
 error-changes-nothing c a e ok err =
-    accepted-call (byte 13) c a ok .1 ∙ rw (err, eq-eqb (c .run .outputs) (c .run .outputs) refl)
+    accepted-call (byte 13) c a ok .1
+    ∙ rw (logged-is (byte 13) c a (aByte 13), err, eq-eqb (c .run .outputs) (c .run .outputs) refl)

@@ -1,26 +1,25 @@
 -- Power-on gives the invariant, refused or not, and every call keeps it.
 -- Assumes nothing.
 use mathlib.Core.Path.{_≡_, refl, sym, ap, _∙_}
-use Prim.Native.Nat.{ℕ, zero, suc, _+_, _≤_, _<_}
+use Prim.Native.Nat.{ℕ, _+_, _≤_, _<_}
 use native.Mathlib.Omega.{arith}
-use mathlib.Core.Bool.{Bool, true, false, not, true≢false}
-use mathlib.Core.List.{List, []}
+use mathlib.Core.Bool.{Bool, true, false, true≢false}
+use mathlib.Core.List.{List}
 use lib.ListN.{length}
-use lib.Dec.{eqb, leb}
+use lib.Dec.{eqb}
 use borrow.Author.Tests.{leb-true}
-use Rattle.formats.specs.Checks.{if_then_else_, Res, refused, passed}
+use Rattle.formats.specs.Checks.{Res, refused, passed}
 use Rattle.formats.proofs.Checks.{if-case, Ok}
 use Rattle.lines.specs.declared.Line.{Line}
 use Rattle.lines.specs.declared.Line.the-variants.{State, For, Next}
-use Rattle.lines.specs.Line.{endMark, bytesOf}
+use Rattle.lines.specs.Line.{endMark}
 use Rattle.lines.proofs.Lines.{length-bytes}
 use Rattle.running.specs.declared.Run.{Run}
 use Rattle.running.specs.declared.Ran.{Ran}
-use Rattle.running.specs.Running.{withOutputs, stopped, start, tick}
+use Rattle.running.specs.Running.{withOutputs, stopped, tick}
 use Rattle.running.specs.Invariant.{RunInvariant}
 use Rattle.running.proofs.Invariant.{stopped-kept, start-kept, tick-kept}
-use Rattle.log.specs.declared.Log.{Log}
-use Rattle.log.specs.Log.{Logged, addChange, emptied}
+use Rattle.log.specs.Log.{Logged}
 use Rattle.log.specs.Invariant.{LogInvariant}
 use Rattle.log.proofs.Histories.{emptied-kept, change-kept}
 use Rattle.wire.specs.declared.Wire.{Wire}
@@ -30,19 +29,17 @@ use Rattle.wire.specs.declared.Data.{Data}
 use Rattle.wire.specs.declared.Data.the-variants.{WriteLine, WriteOutputs, WriteParameter, WriteSpecial}
 use Rattle.wire.specs.declared.Asked.{Asked}
 use Rattle.wire.specs.declared.Asked.the-variants.{Read, Write}
-use Rattle.wire.specs.Collecting.{collect, cleared}
-use Rattle.wire.specs.Special.{modeOf, allowed, codeOf, inReach}
-use Rattle.wire.specs.Command.{command}
+use Rattle.wire.specs.Special.{modeOf, allowed, codeOf}
 use Rattle.wire.specs.Invariant.{WireInvariant}
 use Rattle.wire.proofs.Collecting.{collect-kept, cleared-kept}
 use Rattle.wire.proofs.Commands.{Permitted, DataSound, Sound, asked-sound}
 use Rattle.controller.specs.declared.Controller.{Controller}
-use Rattle.controller.specs.Controller.{withRun, withPaused, withTicks, withWire, withSingle, withParameter, withSpecial, withEvent, mode, Areas, fresh}
+use Rattle.controller.specs.Controller.{withRun, withPaused, withTicks, withWire, withSpecial, withEvent, mode, Areas, fresh}
 use Rattle.controller.specs.Deeds.{Did, raise, moved, startAt, stop, execute, special, read, write, readTo, wroteTo, writing, emptyCollection, asked, answer, ticked, pressed, emptyLog, powerUp}
 use Rattle.controller.specs.Variables.{lineOf}
 use Rattle.controller.specs.Deeds as Deeds
 use Rattle.controller.specs.Refusals.{Call, powerOn, byte, tick as tickCall, press, emptying, check}
-use Rattle.controller.specs.Calls.{does, given, changes, changeOf, logged, After, settled, call}
+use Rattle.controller.specs.Calls.{does, given, changes, changeOf, logged, settled, call}
 use Rattle.controller.specs.Invariant.{Invariant}
 
 -- the state of what was done keeps it; the log is looked at apart

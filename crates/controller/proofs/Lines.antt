@@ -3,21 +3,21 @@
 -- Assumes nothing.
 use mathlib.Core.Path.{_≡_, refl, sym, ap, ap₂, _∙_}
 use mathlib.Core.Logic.{_≢_}
-use Prim.Native.Nat.{ℕ, _+_, _*_, _≤_}
+use Prim.Native.Nat.{ℕ, _≤_}
 use native.Mathlib.Omega.{arith}
 use mathlib.Core.Bool.{Bool, true, false, _&&_, true≢false}
-use mathlib.Core.List.{List, [], _++_, append-nil}
+use mathlib.Core.List.{List, [], append-nil}
 use lib.ListN.{length, take, drop}
 use lib.Seq.{take-append-seam}
 use lib.Dec.{eqb, leb}
-use borrow.Author.Tests.{eqb-true, eqb-false, leb-false, ne-eqb}
+use borrow.Author.Tests.{eqb-true, eqb-false, leb-false}
 use Rattle.formats.specs.Checks.{if_then_else_, Res, refused, passed, text}
 use Rattle.formats.specs.Digits.{errorText}
 use Rattle.formats.proofs.Checks.{if-case, both-true, Ok}
 use Rattle.lines.specs.declared.Line.{Line}
 use Rattle.lines.specs.declared.Line.the-variants.{State, For, Next}
 use Rattle.lines.specs.Line.{readLine, bytesOf}
-use Rattle.lines.specs.Program.{lineAt, putLine}
+use Rattle.lines.specs.Program.{lineAt}
 use Rattle.lines.proofs.Lines.{Fits, bytes-back}
 use Rattle.lines.proofs.Places.{put-same, put-other}
 use Rattle.wire.specs.declared.Special.{Special}
@@ -35,7 +35,7 @@ use Rattle.controller.specs.Deeds.{Did, did, over, ended, raise, moved, 
 use Rattle.controller.specs.Deeds as Deeds
 use Rattle.controller.specs.Refusals.{Call, powerOn, byte, tick, press, emptying, isProgram}
 use Rattle.controller.specs.Calls.{does}
-use Rattle.controller.specs.Effects.{finished, dataCode, specialCode, isLine, writesLine, isPowerOn, replaces}
+use Rattle.controller.specs.Effects.{finished, specialCode, writesLine, replaces}
 use Rattle.controller.specs.Invariant.{Invariant}
 use Rattle.controller.proofs.Refusals.{Checked}
 

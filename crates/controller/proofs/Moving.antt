@@ -1,21 +1,18 @@
 -- Laws of one accepted call: what leaves the run and the program as they were, and what moves the run by the running rules.
 -- Assumes nothing.
-use mathlib.Core.Path.{_≡_, refl, sym, ap, _∙_}
+use mathlib.Core.Path.{_≡_, refl, sym, _∙_}
 use mathlib.Core.Logic.{_≢_}
-use Prim.Native.Nat.{ℕ, zero, suc, _+_}
+use Prim.Native.Nat.{ℕ, _+_}
 use native.Mathlib.Omega.{arith}
 use mathlib.Core.Bool.{Bool, true, false, not, _&&_, true≢false}
-use mathlib.Core.List.{List, [], _∷_}
-use mathlib.Core.Option.{Option, none, some}
+use mathlib.Core.List.{List}
+use mathlib.Core.Option.{none, some}
 use lib.Dec.{eqb}
 use borrow.Author.Tests.{eq-eqb, ne-eqb}
 use Rattle.formats.specs.Checks.{if_then_else_, Res, refused, passed}
 use Rattle.formats.proofs.Checks.{if-case, Ok}
-use Rattle.lines.specs.declared.Line.{Line}
-use Rattle.running.specs.declared.Run.{Run}
 use Rattle.running.specs.declared.Ran.{Ran}
 use Rattle.running.specs.Running.{start, tick}
-use Rattle.wire.specs.declared.Wire.{Wire}
 use Rattle.wire.specs.declared.Mode as M
 use Rattle.wire.specs.declared.Special.{Special}
 use Rattle.wire.specs.declared.Special.the-variants.{Stop, Pause, Start, Continue, StartAt, Execute, Load, Save}
@@ -26,12 +23,12 @@ use Rattle.wire.specs.declared.Asked.the-variants.{Read, Write}
 use Rattle.wire.specs.Special.{modeOf, codeOf}
 use Rattle.wire.proofs.Quiet.{quiet, quietData, quietSpecial, command-quiet}
 use Rattle.controller.specs.declared.Controller.{Controller}
-use Rattle.controller.specs.Controller.{withWire, withSpecial, withEvent, withTicks, mode, Areas}
-use Rattle.controller.specs.Deeds.{Did, did, raise, moved, startAt, special, read, write, readTo, wroteTo, writing, emptyCollection, asked, answer, ticked, pressed, emptyLog}
+use Rattle.controller.specs.Controller.{withSpecial, withEvent, withTicks, mode, Areas}
+use Rattle.controller.specs.Deeds.{Did, raise, moved, startAt, special, write, readTo, wroteTo, writing, emptyCollection, asked, answer, ticked, pressed, emptyLog}
 use Rattle.controller.specs.Deeds as Deeds
 use Rattle.controller.specs.Refusals.{Call, powerOn, byte, tick as tickCall, press, emptying}
 use Rattle.controller.specs.Calls.{does}
-use Rattle.controller.specs.Effects.{finished, dataCode, specialCode, isPress, startBy, startLine}
+use Rattle.controller.specs.Effects.{finished, dataCode, specialCode, startBy, startLine}
 
 -- ---- what leaves the run and the program as they were
 

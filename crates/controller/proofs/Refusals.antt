@@ -12,10 +12,8 @@ use borrow.Author.Tests.{leb-true, eqb-true}
 use Rattle.formats.specs.Checks.{Res, refused, passed, _>>_, _orElse_}
 use Rattle.formats.proofs.Checks.{Ok, ok-guard, both-true}
 use Rattle.log.specs.Record.{leastArea, mostArea}
-use Rattle.log.specs.Log.{emptied}
 use Rattle.controller.specs.declared.Controller.{Controller}
-use Rattle.controller.specs.declared.Answer.{Answer}
-use Rattle.controller.specs.Controller.{Areas, fresh}
+use Rattle.controller.specs.Controller.{Areas}
 use Rattle.controller.specs.Refusals.{Call, powerOn, byte, tick, press, emptying, isProgram, isLog, isSameLog, isReply, mayTick, isButton, isDestination, check}
 use Rattle.controller.specs.Effects.{isPowerOn}
 use Rattle.controller.specs.Calls.{does, given, logged, After, accepted, settled, call}

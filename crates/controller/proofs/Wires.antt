@@ -3,7 +3,6 @@
 use mathlib.Core.Path.{_≡_, refl}
 use Prim.Native.Nat.{ℕ}
 use mathlib.Core.Bool.{Bool, true, false}
-use mathlib.Core.List.{List}
 use lib.Dec.{eqb}
 use Rattle.formats.specs.Checks.{if_then_else_, Res, refused, passed}
 use Rattle.formats.proofs.Checks.{if-case}
@@ -19,7 +18,7 @@ use Rattle.wire.specs.declared.Asked.the-variants.{Read, Write}
 use Rattle.controller.specs.declared.Controller.{Controller}
 use Rattle.controller.specs.Controller.{withSpecial, withEvent, Areas}
 use Rattle.controller.specs.Variables.{lineOf}
-use Rattle.controller.specs.Deeds.{Did, raise, moved, startAt, stop, execute, special, write, readTo, wroteTo, writing, emptyCollection, asked, answer, ticked, pressed, emptyLog}
+use Rattle.controller.specs.Deeds.{Did, raise, moved, startAt, stop, execute, special, write, readTo, wroteTo, writing, emptyCollection, answer, ticked, pressed, emptyLog}
 
 -- the wire after what was done
 abbrev wireIn : Did → Wire

@@ -13,7 +13,6 @@ use Rattle.lines.specs.Program.{putLine, cleaned}
 use Rattle.running.specs.declared.Ran.{Ran}
 use Rattle.running.specs.Running.{withOutputs, stopped, start, tick}
 use Rattle.log.specs.Log.{records, emptied}
-use Rattle.wire.specs.declared.Wire.{Wire}
 use Rattle.wire.specs.declared.Special.{Special}
 use Rattle.wire.specs.declared.Special.the-variants.{Stop, Pause, Start, Continue, StartAt, Execute, Load, Save}
 use Rattle.wire.specs.declared.Data.{Data}

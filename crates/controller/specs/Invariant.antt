@@ -1,6 +1,6 @@
 -- The one invariant: power-on gives it, refused or not, and every call keeps it.
 use mathlib.Core.Path.{_≡_}
-use mathlib.Core.Bool.{Bool, true}
+use mathlib.Core.Bool.{true}
 use lib.ListN.{length}
 use Rattle.running.specs.Invariant.{RunInvariant}
 use Rattle.log.specs.Invariant.{LogInvariant}

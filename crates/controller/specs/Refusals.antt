@@ -1,7 +1,7 @@
 -- The five calls, and the refusals 030 to 035.
 -- 01, 'Calls and what is lent', its table: "Checked in that order, each where the call has that argument."
 use Prim.Native.Nat.{ℕ, _*_}
-use mathlib.Core.Bool.{Bool, true, false, not, _&&_, _||_}
+use mathlib.Core.Bool.{Bool, not, _&&_, _||_}
 use mathlib.Core.List.{List}
 use lib.ListN.{length}
 use lib.Dec.{leb, eqb}

@@ -3,11 +3,11 @@
 -- Assumes nothing.
 use mathlib.Core.Path.{_≡_, refl, sym, ap, ap₂, subst, _∙_}
 use mathlib.Core.Logic.{_≢_}
-use Prim.Native.Nat.{ℕ, zero, suc, _+_}
+use Prim.Native.Nat.{ℕ}
 use native.Mathlib.Omega.{arith}
-use mathlib.Core.Bool.{Bool, true, false, true≢false}
-use mathlib.Core.List.{List, [], _∷_}
-use mathlib.Core.Option.{Option, none, some}
+use mathlib.Core.Bool.{true, false, true≢false}
+use mathlib.Core.List.{List, _∷_}
+use mathlib.Core.Option.{none, some}
 use Rattle.running.specs.declared.Run.{Run}
 use Rattle.running.specs.declared.Ran.{Ran}
 use Rattle.running.specs.Running.{start, tick, ticks}
@@ -20,7 +20,7 @@ use Rattle.controller.proofs.Moving.{MovedAs, does-start, tick-as}
 use Rattle.demands.specs.Histories.{Made, Held, outcome, isAccepted, isLentProgram, next, after, HandsOn, AllHandOn}
 use Rattle.demands.specs.Undisturbed.{Unbroken, unpaused}
 use Rattle.demands.proofs.Steps.{Step, passes, fails, stepped, program-held}
-use Rattle.demands.proofs.Undisturbed.{Goes, undisturbed}
+use Rattle.demands.proofs.Undisturbed.{undisturbed}
 
 -- ---- one call
 

@@ -4,7 +4,7 @@
 use mathlib.Core.Path.{_≡_, refl, sym, ap, _∙_}
 use Prim.Native.Nat.{ℕ, _≤_}
 use native.Mathlib.Omega.{arith}
-use mathlib.Core.Bool.{Bool, true, false, not, _&&_}
+use mathlib.Core.Bool.{Bool, true, false, not}
 use mathlib.Core.List.{List, [], _∷_, _++_, append-nil}
 use lib.ListN.{length}
 use lib.Dec.{eqb, leb}
@@ -22,7 +22,7 @@ use Rattle.controller.specs.Deeds.{over, writing, load, emptyLog, powerUp}
 use Rattle.controller.specs.Refusals.{Call, powerOn, byte, tick, press, emptying, isSameLog}
 use Rattle.controller.specs.Effects.{isPowerOn}
 use Rattle.controller.specs.Calls.{After, does, changeOf, logged}
-use Rattle.controller.proofs.Refusals.{Checked, checked-log, log-long, accepted-call}
+use Rattle.controller.proofs.Refusals.{checked-log, log-long, accepted-call}
 use Rattle.controller.proofs.Logging.{Ordinary, aByte, aTick, aPress, logged-is}
 use Rattle.demands.specs.Histories.{Made, Held, unpowered, outcome, isAccepted, next, after, HandsOn, AllHandOn}
 use Rattle.demands.specs.Changes.{change, sinceCall, since}

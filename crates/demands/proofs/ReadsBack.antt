@@ -4,19 +4,18 @@
 use mathlib.Core.Path.{_≡_, refl, sym, ap, _∙_}
 use Prim.Native.Nat.{ℕ, _≤_}
 use native.Mathlib.Omega.{arith}
-use mathlib.Core.Bool.{Bool, true, false, _&&_, _||_, true≢false}
+use mathlib.Core.Bool.{Bool, true, false, true≢false}
 use mathlib.Core.List.{List, [], _∷_, _++_, head-eq-of-cons-eq}
 use lib.ListN.{length, take}
-use lib.Dec.{eqb, leb}
 use borrow.Author.Tests.{eqb-true, le-leb}
-use Rattle.formats.specs.Checks.{if_then_else_, Res, refused, passed, text}
+use Rattle.formats.specs.Checks.{Res, refused, passed, text}
 use Rattle.formats.specs.Digits.{errorText}
 use Rattle.formats.proofs.Checks.{both-true, ok-at}
 use Rattle.lines.specs.declared.Line.{Line}
 use Rattle.lines.specs.Text.{lineText}
 use Rattle.lines.proofs.Texts.{Sent}
 use Rattle.wire.specs.declared.Asked.{Asked}
-use Rattle.wire.specs.declared.Asked.the-variants.{Read, Write}
+use Rattle.wire.specs.declared.Asked.the-variants.{Write}
 use Rattle.wire.specs.declared.Data.the-variants.{WriteLine}
 use Rattle.wire.specs.Naming.{Names}
 use Rattle.wire.proofs.Commands.{read-asked, WritesLine, write-asked}
@@ -31,10 +30,10 @@ use Rattle.controller.specs.Calls.{After, does}
 use Rattle.controller.specs.Invariant.{Invariant}
 use Rattle.controller.proofs.Refusals.{Checked}
 use Rattle.controller.proofs.Lines.{replyOf, answer-written, lineIn, write-stores, answered-line, line-kept}
-use Rattle.demands.specs.Histories.{Made, Held, unpowered, outcome, isAccepted, isLentProgram, next, after, HandsOn, AllHandOn}
+use Rattle.demands.specs.Histories.{Made, Held, unpowered, isAccepted, isLentProgram, next, after, HandsOn, AllHandOn}
 use Rattle.demands.specs.ReadBack.{reply, ending, Arrives, isReplaced, Unreplaced}
 use Rattle.demands.proofs.Answered.{next-invariant, invariant-always}
-use Rattle.demands.proofs.Steps.{doing, doneHeld, Step, passes, fails, stepped, refused-held, both-false}
+use Rattle.demands.proofs.Steps.{doing, doneHeld, Step, passes, fails, stepped, refused-held}
 
 -- ---- what a reply is
 

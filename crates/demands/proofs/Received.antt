@@ -1,17 +1,16 @@
 -- Demand 2, "Commands": the characters that byte 13 finds are those received since the last command, the first 32 of them, and it
 -- finds the command overlong exactly if there were more.
 -- Assumes nothing.
-use mathlib.Core.Path.{_≡_, refl, sym, ap, ap₂, _∙_}
+use mathlib.Core.Path.{_≡_, refl, sym, ap, _∙_}
 use Prim.Native.Nat.{ℕ, _+_, _≤_, _<_}
 use native.Mathlib.Omega.{arith}
-use mathlib.Core.Bool.{Bool, true, false, true≢false}
+use mathlib.Core.Bool.{Bool, true, false}
 use mathlib.Core.List.{List, [], _∷_, _++_, map}
 use lib.ListN.{length, take, length-append, length-take}
 use lib.Seq.{take-append-le, take-all, length-take-le}
 use lib.Dec.{eqb, ltb}
 use borrow.Author.Tests.{ltb-true, ltb-false, lt-ltb, le-ltb}
 use Rattle.formats.specs.Checks.{if_then_else_}
-use Rattle.formats.proofs.Checks.{if-case}
 use Rattle.wire.specs.declared.Wire.{Wire}
 use Rattle.wire.specs.Collecting.{mostChars, collect, capital, sent}
 use Rattle.wire.specs.Invariant.{WireInvariant}
@@ -24,9 +23,9 @@ use Rattle.controller.specs.Refusals.{Call, powerOn, byte, tick, press, emptyin
 use Rattle.controller.specs.Calls.{does}
 use Rattle.controller.specs.Invariant.{Invariant}
 use Rattle.controller.proofs.Wires.{Empty, answer-empties, tick-wire, press-wire, emptying-wire}
-use Rattle.demands.specs.Histories.{Made, Held, unpowered, isAccepted, next, after}
+use Rattle.demands.specs.Histories.{Made, Held, unpowered, next, after}
 use Rattle.demands.specs.Received.{character, receivedCall, received}
-use Rattle.demands.proofs.Steps.{doing, Step, passes, fails, stepped, refused-held}
+use Rattle.demands.proofs.Steps.{Step, passes, fails, stepped}
 use Rattle.demands.proofs.Answered.{next-invariant}
 use Rattle.controller.proofs.Invariant.{fresh-invariant}
 

@@ -1,19 +1,18 @@
 -- Demand 3, the calls between the ticks: "No traffic makes a step early or late, and pausing neither gains nor loses a tick."
 -- Assumes nothing.
 use mathlib.Core.Path.{_≡_, refl, sym, ap, ap₂, _∙_}
-use Prim.Native.Nat.{ℕ, zero, suc, _+_}
+use Prim.Native.Nat.{ℕ, _+_}
 use mathlib.Core.Bool.{Bool, true, false, true≢false}
 use mathlib.Core.List.{List, [], _∷_}
 use lib.Dec.{eqb}
 use borrow.Author.Tests.{eqb-false}
-use Rattle.formats.specs.Checks.{if_then_else_}
 use Rattle.running.specs.declared.Run.{Run}
 use Rattle.running.specs.Running.{tick, ticks}
 use Rattle.running.proofs.Waiting.{ticks-add, was-on}
 use Rattle.controller.specs.Controller.{Areas}
 use Rattle.controller.specs.Refusals.{Call, powerOn, byte, tick as tickCall, press, emptying}
 use Rattle.controller.specs.Calls.{does}
-use Rattle.controller.specs.Effects.{finished, specialCode, isPress, isPowerOn}
+use Rattle.controller.specs.Effects.{finished, specialCode, isPowerOn}
 use Rattle.controller.proofs.Moving.{Same, byte-same, paused-same, press-same, emptying-same, MovedAs, tick-as}
 use Rattle.demands.specs.Histories.{Made, Held, isAccepted, next, after, HandsOn, AllHandOn}
 use Rattle.demands.specs.Undisturbed.{isBroken, Unbroken, tickOf, counts, unpaused}

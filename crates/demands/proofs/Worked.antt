@@ -1,6 +1,6 @@
 -- The worked points marked P hold of the definitions: every rule that they touch is computed.
 use mathlib.Core.Path.{_≡_, refl}
-use mathlib.Core.List.{List, []}
+use mathlib.Core.List.{[]}
 use Rattle.formats.specs.Checks as Checks
 use Rattle.formats.specs.Digits as Digits
 use Rattle.lines.specs.Line as Line

@@ -7,7 +7,7 @@ use lib.ListN.{take}
 use Rattle.wire.specs.Collecting.{sent}
 use Rattle.controller.specs.Controller.{Areas}
 use Rattle.controller.specs.Effects.{isPowerOn, replaces}
-use Rattle.controller.specs.Refusals.{Call, byte}
+use Rattle.controller.specs.Refusals.{byte}
 use Rattle.demands.specs.Histories.{Made, Held, outcome, isAccepted, next}
 
 -- the reply of a call, as it stands in its area

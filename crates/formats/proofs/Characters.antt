@@ -1,15 +1,15 @@
 -- A number is read back from the characters that show it, and characters that are read as a number show it.
 -- Assumes nothing.
-use mathlib.Core.Path.{_≡_, refl, sym, ap, ap₂, _∙_}
-use Prim.Native.Nat.{ℕ, zero, suc, _+_, _-_, _^_, _≤_, _<_}
-use mathlib.Core.Bool.{Bool, true, false, _&&_}
+use mathlib.Core.Path.{_≡_, refl, ap, ap₂, _∙_}
+use Prim.Native.Nat.{ℕ, _+_, _-_, _^_, _≤_, _<_}
+use mathlib.Core.Bool.{true, _&&_}
 use mathlib.Core.List.{List, [], _∷_, map}
 use lib.ListN.{length, length-map}
 use lib.Dec.{leb, ltb, eqb}
 use native.Mathlib.Omega.{arith}
 use borrow.Author.Tests.{lt-ltb, le-ltb, ltb-true, leb-true, eqb-true}
-use Rattle.formats.specs.Checks.{if_then_else_, Res, refused, passed, _>>_, _orElse_, all}
-use Rattle.formats.specs.Digits.{digits, number, digitChar, digitValue, isDigit, shown, numberIn}
+use Rattle.formats.specs.Checks.{passed, _>>_, _orElse_, all}
+use Rattle.formats.specs.Digits.{digits, digitChar, digitValue, isDigit, shown, numberIn}
 use Rattle.formats.proofs.Checks.{if-case, both-true, below, Ok, ok-guard}
 use Rattle.formats.proofs.Digits.{isBelow, length-digits, number-below, digits-below, number-digits, digits-number}
 

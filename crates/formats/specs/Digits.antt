@@ -3,11 +3,11 @@
 -- 01, 'The wire': "Formats: h is two hex digits, d three decimal digits to 255, 2d four decimal digits to 9999."
 use Prim.Native.Nat.{ℕ, zero, suc, _+_, _*_, _-_, _/_, _%_}
 use Prim.Native.Char.{code}
-use mathlib.Core.Bool.{Bool, true, false, _&&_}
+use mathlib.Core.Bool.{Bool, _&&_}
 use mathlib.Core.List.{List, [], _∷_, _++_, map}
 use lib.ListN.{length}
 use lib.Dec.{leb, ltb, eqb}
-use Rattle.formats.specs.Checks.{if_then_else_, Res, refused, passed, _>>=_, _>>_, _orElse_, all, text}
+use Rattle.formats.specs.Checks.{if_then_else_, Res, passed, _>>=_, _>>_, _orElse_, all, text}
 
 -- the last n digits of v to a base
 unfoldable pub digits : ℕ → ℕ → ℕ → List ℕ

@@ -1,21 +1,19 @@
 -- Laws of a line's eight bytes: what is read lies in its ranges, and a line written is the line read.
 -- Assumes nothing.
-use mathlib.Core.Path.{_≡_, refl, sym, ap, _∙_}
-use Prim.Native.Nat.{ℕ, zero, suc, _+_, _*_, _/_, _%_, _^_, _≤_, _<_}
-use mathlib.Core.Bool.{Bool, true, false, _&&_}
-use mathlib.Core.List.{List, [], _∷_, _++_}
-use lib.ListN.{length, take, drop, getD, replicate}
-use lib.Seq.{take-take, take-all, getD-take}
+use mathlib.Core.Path.{_≡_, refl}
+use Prim.Native.Nat.{ℕ, _^_, _≤_, _<_}
+use mathlib.Core.Bool.{true, _&&_}
+use mathlib.Core.List.{List, _++_}
+use lib.ListN.{length, getD}
 use lib.Dec.{leb, eqb}
 use native.Mathlib.Omega.{arith}
 use borrow.Author.Tests.{le-leb, leb-true}
-use Rattle.formats.specs.Checks.{if_then_else_}
-use Rattle.formats.specs.Digits.{digits, numberAfter, number}
+use Rattle.formats.specs.Digits.{digits, numberAfter}
 use Rattle.formats.proofs.Checks.{if-case, both-true}
-use Rattle.formats.proofs.Digits.{length-digits, number-digits}
+use Rattle.formats.proofs.Digits.{number-digits}
 use Rattle.lines.specs.declared.Line.{Line}
 use Rattle.lines.specs.declared.Line.the-variants.{State, For, Next}
-use Rattle.lines.specs.Line.{endMark, isCounter, part, field, isState, isFor, isNext, readLine, bytesOf}
+use Rattle.lines.specs.Line.{endMark, isCounter, field, isState, isFor, isNext, readLine, bytesOf}
 
 -- ---- the ranges
 

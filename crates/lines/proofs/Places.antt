@@ -5,15 +5,14 @@ use mathlib.Core.Logic.{_≢_}
 use Prim.Native.Nat.{ℕ, zero, suc, _+_, _*_, _-_, _≤_, _<_}
 use mathlib.Core.Bool.{Bool, true, false}
 use mathlib.Core.List.{List, [], _∷_, _++_, append-assoc}
-use lib.ListN.{length, take, drop, getD, length-append, length-drop, length-take, take-append-drop}
-use lib.Seq.{take-take, drop-at, length-take-le, take-append-le, drop-append-le, drop-append-add, drop-drop, getD-take}
+use lib.ListN.{length, take, drop, length-append, length-drop, take-append-drop}
+use lib.Seq.{drop-at, length-take-le, take-append-le, drop-append-le, drop-append-add, drop-drop}
 use lib.Dec.{ltb}
 use native.Mathlib.Omega.{arith}
 use borrow.Author.Tests.{ltb-true, ltb-false}
 use Rattle.lines.specs.declared.Line.{Line}
-use Rattle.lines.specs.declared.Line.the-variants.{State, For, Next}
-use Rattle.lines.specs.Line.{part, field, readLine, bytesOf}
-use Rattle.lines.specs.Program.{lineAt, putLine, cleanedLines, cleaned, isNextOf, firstNext, nextAfter}
+use Rattle.lines.specs.Line.{readLine, bytesOf}
+use Rattle.lines.specs.Program.{lineAt, putLine, cleanedLines, firstNext, nextAfter}
 use Rattle.lines.proofs.Lines.{Ranged, read-ranged, Fits, bytes-back, length-bytes}
 
 -- ---- one line alone

@@ -1,18 +1,18 @@
 -- Laws of a line on the wire: what is shown is read back, and what is accepted is shown as it was sent.
 -- Assumes nothing.
 use mathlib.Core.Path.{_≡_, refl, sym, ap, ap₂, _∙_}
-use Prim.Native.Nat.{ℕ, zero, suc, _+_, _^_, _≤_, _<_}
+use Prim.Native.Nat.{ℕ, _+_, _^_, _≤_, _<_}
 use Prim.Native.Char.{code}
-use mathlib.Core.Bool.{Bool, true, false, _&&_}
+use mathlib.Core.Bool.{Bool, true, false}
 use mathlib.Core.List.{List, [], _∷_, _++_, append-nil}
 use lib.ListN.{length, take, drop, getD, length-append, take-append-drop, length-take, length-drop}
 use lib.Seq.{drop-drop, drop-cons, drop-length, take-at, drop-at, take-all}
 use lib.Dec.{eqb, leb, ltb}
 use native.Mathlib.Omega.{arith}
 use borrow.Author.Tests.{eqb-true, ltb-true, leb-true}
-use Rattle.formats.specs.Checks.{if_then_else_, Res, refused, passed, _>>=_, _>>_, _orElse_, text}
+use Rattle.formats.specs.Checks.{Res, refused, passed, _>>=_, _>>_, _orElse_, text}
 use Rattle.formats.specs.Digits.{shown, numberIn}
-use Rattle.formats.proofs.Checks.{if-case, both-true, Ok, ok-bind, ok-guard, ok-at}
+use Rattle.formats.proofs.Checks.{if-case, both-true, Ok, ok-bind, ok-guard}
 use Rattle.formats.proofs.Characters.{length-shown, shown-back, read-shows, read-fits}
 use Rattle.lines.specs.declared.Line.{Line}
 use Rattle.lines.specs.declared.Line.the-variants.{State, For, Next}

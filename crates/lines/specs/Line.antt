@@ -1,8 +1,8 @@
 -- Eight bytes as a line, and a line as eight bytes.
 -- 01, 'Variables': "A line is 8 bytes. [...] Times and counts are at most 9999."
 use Prim.Native.Nat.{ℕ}
-use mathlib.Core.Bool.{Bool, true, false, _&&_}
-use mathlib.Core.List.{List, [], _∷_, _++_}
+use mathlib.Core.Bool.{Bool, _&&_}
+use mathlib.Core.List.{List, _∷_, _++_}
 use lib.ListN.{getD, take, drop, replicate}
 use lib.Dec.{leb, eqb}
 use Rattle.formats.specs.Checks.{if_then_else_}

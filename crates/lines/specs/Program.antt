@@ -1,9 +1,9 @@
 -- The program area: 200 lines of eight bytes, numbered from 000.
 use Prim.Native.Nat.{ℕ, zero, suc, _+_, _*_, _-_}
 use mathlib.Core.Bool.{Bool, true, false}
-use mathlib.Core.List.{List, [], _∷_, _++_}
+use mathlib.Core.List.{List, [], _++_}
 use lib.ListN.{take, drop}
-use lib.Dec.{eqb, ltb}
+use lib.Dec.{eqb}
 use Rattle.lines.specs.declared.Line.{Line}
 use Rattle.lines.specs.declared.Line.the-variants.{State, For, Next}
 use Rattle.lines.specs.Line.{readLine, bytesOf}

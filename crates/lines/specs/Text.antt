@@ -2,11 +2,10 @@
 -- 01, 'Variables': "Wire forms: `S 00 X4 X3 X2 X1 TTTT`, `F C XXXX`, `N C`."
 use Prim.Native.Nat.{ℕ}
 use Prim.Native.Char.{code}
-use mathlib.Core.Bool.{Bool, true, false, _&&_}
-use mathlib.Core.List.{List, [], _∷_, _++_}
+use mathlib.Core.List.{List, _++_}
 use lib.ListN.{length, getD}
 use lib.Dec.{ltb, eqb}
-use Rattle.formats.specs.Checks.{if_then_else_, Res, refused, passed, _>>=_, _>>_, _orElse_, text}
+use Rattle.formats.specs.Checks.{if_then_else_, Res, passed, _>>=_, _>>_, _orElse_, text}
 use Rattle.formats.specs.Digits.{shown, numberIn}
 use Rattle.lines.specs.declared.Line.{Line}
 use Rattle.lines.specs.declared.Line.the-variants.{State, For, Next}

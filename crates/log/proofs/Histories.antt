@@ -1,20 +1,19 @@
 -- The log holds the history of the changes since it was emptied, whatever they are and however many.
 -- Assumes nothing.
 use mathlib.Core.Path.{_≡_, refl, sym, ap, _∙_}
-use Prim.Native.Nat.{ℕ, zero, suc, _+_, _*_, _-_, _/_, _≤_, _<_, min}
+use Prim.Native.Nat.{ℕ, _+_, _*_, _-_, _/_, _≤_, _<_, min}
 use mathlib.Core.Bool.{Bool, true, false}
 use mathlib.Core.List.{List, [], _∷_, _++_, append-assoc, append-nil}
 use lib.ListN.{take, length, length-append}
 use lib.Seq.{take-append-le, take-all, take-nil}
-use lib.Dec.{ltb, eqb}
+use lib.Dec.{ltb}
 use native.Mathlib.Omega.{arith}
 use borrow.Author.Tests.{ltb-true, ltb-false, eq-eqb, ne-eqb}
-use Rattle.formats.specs.Checks.{if_then_else_}
 use Rattle.formats.proofs.Checks.{if-case}
 use Rattle.log.specs.declared.Change.{Change}
 use Rattle.log.specs.declared.Log.{Log}
 use Rattle.log.specs.Record.{recordSize, leastArea, changeRecord, gapRecord}
-use Rattle.log.specs.Log.{R, mostLost, Logged, place, oneMoreLost, addChange, held, records, emptied, recordsOf, lastTick, history}
+use Rattle.log.specs.Log.{R, mostLost, Logged, oneMoreLost, addChange, records, emptied, recordsOf, lastTick, history}
 use Rattle.log.specs.Invariant.{LogInvariant}
 use Rattle.log.proofs.Places.{length-change, length-gap, place-before, place-at, length-place}
 

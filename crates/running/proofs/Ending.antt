@@ -1,15 +1,13 @@
 -- A start or a tick runs at most 400 For and Next lines, and it raises an event exactly if it ends the program.
 -- Assumes nothing.
-use Prim.Native.Nat.{ℕ, zero, suc, _+_, _-_, _≤_, _<_}
+use Prim.Native.Nat.{ℕ, zero, suc, _+_, _-_, _≤_}
 use native.Mathlib.Omega.{arith}
 use native.Mathlib.Nat.{le-trans}
 use mathlib.Core.Path.{_≡_, refl, sym, _∙_}
 use mathlib.Core.Logic.{_≢_}
-use mathlib.Core.Bool.{Bool, true, false, not, true≢false}
+use mathlib.Core.Bool.{true, false, not, true≢false}
 use mathlib.Core.List.{List}
 use lib.Dec.{eqb, ltb}
-use borrow.Author.Tests.{not-false}
-use Rattle.formats.specs.Checks.{if_then_else_}
 use Rattle.formats.proofs.Checks.{if-case}
 use Rattle.lines.specs.declared.Line.{Line}
 use Rattle.lines.specs.declared.Line.the-variants.{State, For, Next}
@@ -19,7 +17,7 @@ use Rattle.running.specs.declared.How.{How}
 use Rattle.running.specs.declared.How.the-variants.{Holds, Ends, GoesOn}
 use Rattle.running.specs.declared.Step.{Step}
 use Rattle.running.specs.declared.Ran.{Ran}
-use Rattle.running.specs.Running.{allFree, counter, isBusy, isFree, withOutputs, waiting, stopped, holds, ends, onward, runLine, isForOrNext, counted, stops, rests, isHeld, follow, step, runDue, most, start, tick, ticks}
+use Rattle.running.specs.Running.{allFree, counter, isBusy, isFree, stopped, holds, ends, onward, runLine, isForOrNext, counted, stops, isHeld, follow, step, runDue, most, start, tick}
 
 -- ---- at most 400 lines
 

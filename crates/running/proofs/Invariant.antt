@@ -4,12 +4,11 @@ use Prim.Native.Nat.{ℕ, zero, suc, _+_, _-_, _≤_, _<_}
 use native.Mathlib.Omega.{arith}
 use mathlib.Core.Path.{_≡_, refl, sym, _∙_}
 use mathlib.Core.Logic.{_≢_}
-use mathlib.Core.Bool.{Bool, true, false, not, true≢false}
+use mathlib.Core.Bool.{true, not, true≢false}
 use mathlib.Core.List.{List, [], _∷_}
 use lib.ListN.{getD, set}
 use lib.Dec.{eqb, ltb}
-use borrow.Author.Tests.{eqb-false, ltb-true, not-true, not-false}
-use Rattle.formats.specs.Checks.{if_then_else_}
+use borrow.Author.Tests.{eqb-false, ltb-true, not-false}
 use Rattle.formats.proofs.Checks.{if-case}
 use Rattle.lines.specs.declared.Line.{Line}
 use Rattle.lines.specs.declared.Line.the-variants.{State, For, Next}
@@ -22,7 +21,7 @@ use Rattle.running.specs.declared.How.{How}
 use Rattle.running.specs.declared.How.the-variants.{Holds, Ends, GoesOn}
 use Rattle.running.specs.declared.Step.{Step}
 use Rattle.running.specs.declared.Ran.{Ran}
-use Rattle.running.specs.Running.{free, allFree, counter, isBusy, isFree, atLine, withOutputs, waiting, withCounter, stopped, holds, ends, goesTo, onward, atLeastOne, runLine, isForOrNext, counted, stops, rests, isHeld, follow, step, runDue, most, start, tick}
+use Rattle.running.specs.Running.{free, allFree, counter, isBusy, isFree, withOutputs, waiting, withCounter, stopped, ends, goesTo, onward, atLeastOne, runLine, isForOrNext, isHeld, follow, step, runDue, most, start, tick}
 use Rattle.running.specs.Invariant.{RunInvariant}
 
 -- ---- counters

@@ -1,7 +1,7 @@
 -- What holds of the run after power-on and is kept by every call.
 use Prim.Native.Nat.{ℕ, _≤_, _<_}
 use mathlib.Core.Path.{_≡_}
-use mathlib.Core.Bool.{Bool, false}
+use mathlib.Core.Bool.{false}
 use lib.ListN.{getD}
 use Rattle.running.specs.declared.Run.{Run}
 use Rattle.running.specs.Running.{free, stopped}

@@ -1,19 +1,18 @@
 -- Laws of collecting: the invariant is kept, and what is kept is what was received.
 -- Assumes nothing.
-use mathlib.Core.Path.{_≡_, refl, sym, ap, _∙_}
-use Prim.Native.Nat.{ℕ, zero, suc, _+_, _≤_, _<_}
+use mathlib.Core.Path.{_≡_, _∙_}
+use Prim.Native.Nat.{ℕ, _≤_, _<_}
 use native.Mathlib.Omega.{arith}
-use mathlib.Core.Bool.{Bool, true, false}
+use mathlib.Core.Bool.{true, false}
 use mathlib.Core.List.{List, [], _∷_, _++_}
-use lib.ListN.{length, take, set, length-set}
+use lib.ListN.{take, length-set}
 use lib.Seq.{take-suc-set}
 use lib.Dec.{eqb, ltb}
 use borrow.Author.Tests.{ltb-true, lt-ltb, le-ltb}
 use native.Mathlib.Numerals.{add-one}
-use Rattle.formats.specs.Checks.{if_then_else_}
 use Rattle.formats.proofs.Checks.{if-case}
 use Rattle.wire.specs.declared.Wire.{Wire}
-use Rattle.wire.specs.Collecting.{mostChars, keep, tooLong, collect, cleared}
+use Rattle.wire.specs.Collecting.{mostChars, tooLong, collect, cleared}
 use Rattle.wire.specs.Invariant.{WireInvariant}
 
 -- the characters kept

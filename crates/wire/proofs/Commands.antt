@@ -3,11 +3,11 @@
 use mathlib.Core.Path.{_≡_, refl, sym, ap, _∙_}
 use Prim.Native.Nat.{ℕ, _≤_}
 use native.Mathlib.Omega.{arith}
-use mathlib.Core.Bool.{Bool, true, false}
+use mathlib.Core.Bool.{true, false}
 use mathlib.Core.List.{List, [], _∷_, _++_, append-nil}
 use lib.Dec.{eqb, leb}
 use borrow.Author.Tests.{le-leb, leb-true}
-use Rattle.formats.specs.Checks.{if_then_else_, Res, refused, passed, _>>=_, _>>_, _orElse_, text}
+use Rattle.formats.specs.Checks.{passed, _>>=_, _>>_, _orElse_, text}
 use Rattle.formats.specs.Digits.{hIn, dIn}
 use Rattle.formats.proofs.Checks.{if-case, Ok, ok-bind, ok-passed, ok-guard}
 use Rattle.lines.specs.declared.Line.{Line}
@@ -16,7 +16,7 @@ use Rattle.lines.proofs.Lines.{Fits}
 use Rattle.lines.proofs.Texts.{Sent, accepted-shows, text-accepted}
 use Rattle.wire.specs.declared.Wire.{Wire}
 use Rattle.wire.specs.declared.Mode.{Mode}
-use Rattle.wire.specs.declared.Mode.the-variants.{Stop, Pause, Auto}
+use Rattle.wire.specs.declared.Mode.the-variants.{Stop}
 use Rattle.wire.specs.declared.Special.{Special}
 use Rattle.wire.specs.declared.Data.{Data}
 use Rattle.wire.specs.declared.Data.the-variants.{WriteLine, WriteOutputs, WriteParameter, WriteSpecial}
@@ -24,10 +24,10 @@ use Rattle.wire.specs.declared.Asked.{Asked}
 use Rattle.wire.specs.declared.Asked.the-variants.{Read, Write}
 use Rattle.wire.specs.Collecting.{sent}
 use Rattle.wire.specs.Special.{allowed, specialOf, inReach}
-use Rattle.wire.specs.Command.{isRead, rest, addressIn, isWritable, isOpen, specialIn, dataIn, readCommand, writeCommand, command}
+use Rattle.wire.specs.Command.{isRead, rest, isWritable, isOpen, specialIn, dataIn, readCommand, writeCommand, command}
 use Rattle.wire.specs.Naming.{Names}
 use Rattle.wire.specs.Invariant.{WireInvariant}
-use Rattle.wire.proofs.Addresses.{Found, found, address-inside}
+use Rattle.wire.proofs.Addresses.{found, address-inside}
 
 -- ---- what a command that passes the checks can ask for
 
