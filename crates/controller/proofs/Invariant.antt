@@ -23,13 +23,13 @@ use Rattle.log.specs.Log.{Logged}
 use Rattle.log.specs.Invariant.{LogInvariant}
 use Rattle.log.proofs.Histories.{emptied-kept, change-kept}
 use Rattle.wire.specs.declared.Wire.{Wire}
-use Rattle.wire.specs.declared.Special.{Special}
-use Rattle.wire.specs.declared.Special.the-variants.{Stop, Pause, Start, Continue, StartAt, Execute, Load, Save}
+use Rattle.special.specs.declared.Special.{Special}
+use Rattle.special.specs.declared.Special.the-variants.{Stop, Pause, Start, Continue, StartAt, Execute, Load, Save}
 use Rattle.wire.specs.declared.Data.{Data}
 use Rattle.wire.specs.declared.Data.the-variants.{WriteLine, WriteOutputs, WriteParameter, WriteSpecial}
 use Rattle.wire.specs.declared.Asked.{Asked}
 use Rattle.wire.specs.declared.Asked.the-variants.{Read, Write}
-use Rattle.wire.specs.Special.{modeOf, allowed, codeOf}
+use Rattle.special.specs.Special.{modeOf, allowed, codeOf}
 use Rattle.wire.specs.Invariant.{WireInvariant}
 use Rattle.wire.proofs.Collecting.{collect-kept, cleared-kept}
 use Rattle.wire.proofs.Commands.{Permitted, DataSound, Sound, asked-sound}

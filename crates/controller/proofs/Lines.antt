@@ -20,13 +20,13 @@ use Rattle.lines.specs.Line.{readLine, bytesOf}
 use Rattle.lines.specs.Program.{lineAt}
 use Rattle.lines.proofs.Lines.{Fits, bytes-back}
 use Rattle.lines.proofs.Places.{put-same, put-other}
-use Rattle.wire.specs.declared.Special.{Special}
-use Rattle.wire.specs.declared.Special.the-variants.{Stop, Pause, Start, Continue, StartAt, Execute, Load, Save}
+use Rattle.special.specs.declared.Special.{Special}
+use Rattle.special.specs.declared.Special.the-variants.{Stop, Pause, Start, Continue, StartAt, Execute, Load, Save}
 use Rattle.wire.specs.declared.Data.{Data}
 use Rattle.wire.specs.declared.Data.the-variants.{WriteLine, WriteOutputs, WriteParameter, WriteSpecial}
 use Rattle.wire.specs.declared.Asked.{Asked}
 use Rattle.wire.specs.declared.Asked.the-variants.{Read, Write}
-use Rattle.wire.specs.Special.{codeOf}
+use Rattle.special.specs.Special.{codeOf}
 use Rattle.wire.proofs.Commands.{DataSound, Sound, asked-sound}
 use Rattle.controller.specs.declared.Controller.{Controller}
 use Rattle.controller.specs.Controller.{withSpecial, withEvent, mode, Areas}

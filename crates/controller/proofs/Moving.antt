@@ -13,15 +13,16 @@ use Rattle.formats.specs.Checks.{if_then_else_, Res, refused, passed}
 use Rattle.formats.proofs.Checks.{if-case, Ok}
 use Rattle.running.specs.declared.Ran.{Ran}
 use Rattle.running.specs.Running.{start, tick}
-use Rattle.wire.specs.declared.Mode as M
-use Rattle.wire.specs.declared.Special.{Special}
-use Rattle.wire.specs.declared.Special.the-variants.{Stop, Pause, Start, Continue, StartAt, Execute, Load, Save}
+use Rattle.special.specs.declared.Mode as M
+use Rattle.special.specs.declared.Special.{Special}
+use Rattle.special.specs.declared.Special.the-variants.{Stop, Pause, Start, Continue, StartAt, Execute, Load, Save}
 use Rattle.wire.specs.declared.Data.{Data}
 use Rattle.wire.specs.declared.Data.the-variants.{WriteLine, WriteOutputs, WriteParameter, WriteSpecial}
 use Rattle.wire.specs.declared.Asked.{Asked}
 use Rattle.wire.specs.declared.Asked.the-variants.{Read, Write}
-use Rattle.wire.specs.Special.{modeOf, codeOf}
-use Rattle.wire.proofs.Quiet.{quiet, quietData, quietSpecial, command-quiet}
+use Rattle.special.specs.Special.{modeOf, codeOf}
+use Rattle.special.proofs.Quiet.{quietSpecial}
+use Rattle.wire.proofs.Quiet.{quiet, quietData, command-quiet}
 use Rattle.controller.specs.declared.Controller.{Controller}
 use Rattle.controller.specs.Controller.{withSpecial, withEvent, withTicks, mode, Areas}
 use Rattle.controller.specs.Deeds.{Did, raise, moved, startAt, special, write, readTo, wroteTo, writing, emptyCollection, asked, answer, ticked, pressed, emptyLog}

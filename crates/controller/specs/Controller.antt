@@ -9,8 +9,8 @@ use Rattle.running.specs.Running.{allFree}
 use Rattle.log.specs.declared.Log.{Log}
 use Rattle.log.specs.Log.{emptied}
 use Rattle.wire.specs.declared.Wire.{Wire}
-use Rattle.wire.specs.declared.Mode.{Mode}
-use Rattle.wire.specs.Special.{modeOf}
+use Rattle.special.specs.declared.Mode.{Mode}
+use Rattle.special.specs.Special.{modeOf}
 use Rattle.controller.specs.declared.Panel.{Panel}
 use Rattle.controller.specs.declared.Controller.{Controller}
 

@@ -13,14 +13,14 @@ use Rattle.lines.specs.Program.{putLine, cleaned}
 use Rattle.running.specs.declared.Ran.{Ran}
 use Rattle.running.specs.Running.{withOutputs, stopped, start, tick}
 use Rattle.log.specs.Log.{records, emptied}
-use Rattle.wire.specs.declared.Special.{Special}
-use Rattle.wire.specs.declared.Special.the-variants.{Stop, Pause, Start, Continue, StartAt, Execute, Load, Save}
+use Rattle.special.specs.declared.Special.{Special}
+use Rattle.special.specs.declared.Special.the-variants.{Stop, Pause, Start, Continue, StartAt, Execute, Load, Save}
 use Rattle.wire.specs.declared.Data.{Data}
 use Rattle.wire.specs.declared.Data.the-variants.{WriteLine, WriteOutputs, WriteParameter, WriteSpecial}
 use Rattle.wire.specs.declared.Asked.{Asked}
 use Rattle.wire.specs.declared.Asked.the-variants.{Read, Write}
 use Rattle.wire.specs.Collecting.{collect, cleared}
-use Rattle.wire.specs.Special.{codeOf}
+use Rattle.special.specs.Special.{codeOf}
 use Rattle.wire.specs.Command.{command}
 use Rattle.controller.specs.declared.Controller.{Controller}
 use Rattle.controller.specs.Controller.{withRun, withPaused, withTicks, withWire, withLog, withSingle, withParameter, withSpecial, withEvent, mode, Areas, withProgram, withSaved, withOut, fresh}

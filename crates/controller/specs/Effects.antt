@@ -9,7 +9,7 @@ use Rattle.wire.specs.declared.Data.{Data}
 use Rattle.wire.specs.declared.Data.the-variants.{WriteLine, WriteOutputs, WriteParameter, WriteSpecial}
 use Rattle.wire.specs.declared.Asked.{Asked}
 use Rattle.wire.specs.declared.Asked.the-variants.{Read, Write}
-use Rattle.wire.specs.Special.{codeOf}
+use Rattle.special.specs.Special.{codeOf}
 use Rattle.controller.specs.declared.Controller.{Controller}
 use Rattle.controller.specs.Deeds.{asked}
 use Rattle.controller.specs.Refusals.{Call, powerOn, byte, tick, press, emptying}

@@ -10,7 +10,7 @@ use Rattle.running.specs.Running as Running
 use Rattle.log.specs.Record as Record
 use Rattle.log.specs.Log as Log
 use Rattle.wire.specs.Collecting as Collecting
-use Rattle.wire.specs.Special as Special
+use Rattle.special.specs.Special as Special
 use Rattle.wire.specs.Command as Command
 use Rattle.controller.specs.Controller as Controller
 use Rattle.controller.specs.Variables as Variables

@@ -15,15 +15,15 @@ use Rattle.lines.specs.Text.{lineText, lineIn}
 use Rattle.lines.proofs.Lines.{Fits}
 use Rattle.lines.proofs.Texts.{Sent, accepted-shows, text-accepted}
 use Rattle.wire.specs.declared.Wire.{Wire}
-use Rattle.wire.specs.declared.Mode.{Mode}
-use Rattle.wire.specs.declared.Mode.the-variants.{Stop}
-use Rattle.wire.specs.declared.Special.{Special}
+use Rattle.special.specs.declared.Mode.{Mode}
+use Rattle.special.specs.declared.Mode.the-variants.{Stop}
+use Rattle.special.specs.declared.Special.{Special}
 use Rattle.wire.specs.declared.Data.{Data}
 use Rattle.wire.specs.declared.Data.the-variants.{WriteLine, WriteOutputs, WriteParameter, WriteSpecial}
 use Rattle.wire.specs.declared.Asked.{Asked}
 use Rattle.wire.specs.declared.Asked.the-variants.{Read, Write}
 use Rattle.wire.specs.Collecting.{sent}
-use Rattle.wire.specs.Special.{allowed, specialOf, inReach}
+use Rattle.special.specs.Special.{allowed, specialOf, inReach}
 use Rattle.wire.specs.Command.{isRead, rest, isWritable, isOpen, specialIn, dataIn, readCommand, writeCommand, command}
 use Rattle.wire.specs.Naming.{Names}
 use Rattle.wire.specs.Invariant.{WireInvariant}

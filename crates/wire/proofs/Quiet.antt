@@ -12,27 +12,17 @@ use Rattle.formats.specs.Checks.{passed, _>>=_}
 use Rattle.formats.specs.Digits.{dIn}
 use Rattle.formats.proofs.Checks.{if-case, either-true, Ok, ok-bind, ok-passed, ok-guard}
 use Rattle.wire.specs.declared.Wire.{Wire}
-use Rattle.wire.specs.declared.Mode as M
-use Rattle.wire.specs.declared.Mode.{Mode}
-use Rattle.wire.specs.declared.Special.{Special}
-use Rattle.wire.specs.declared.Special.the-variants.{Stop, Pause, Start, Continue, StartAt, Execute, Load, Save}
+use Rattle.special.specs.declared.Mode as M
+use Rattle.special.specs.declared.Mode.{Mode}
+use Rattle.special.specs.declared.Special.the-variants.{Stop, Pause}
 use Rattle.wire.specs.declared.Data.{Data}
 use Rattle.wire.specs.declared.Data.the-variants.{WriteLine, WriteOutputs, WriteParameter, WriteSpecial}
 use Rattle.wire.specs.declared.Asked.{Asked}
 use Rattle.wire.specs.declared.Asked.the-variants.{Read, Write}
 use Rattle.wire.specs.Collecting.{sent}
-use Rattle.wire.specs.Special.{allowed, inReach, specialOf}
+use Rattle.special.specs.Special.{allowed, inReach, specialOf}
+use Rattle.special.proofs.Quiet.{quietSpecial, special-quiet}
 use Rattle.wire.specs.Command.{isRead, isWritable, isOpen, rest, addressIn, specialIn, dataIn, readCommand, writeCommand, command}
-
-abbrev pub quietSpecial : Special → Bool
-quietSpecial Stop = true
-quietSpecial Pause = true
-quietSpecial Start = false
-quietSpecial Continue = true
-quietSpecial StartAt = false
-quietSpecial Execute = false
-quietSpecial Load = false
-quietSpecial Save = false
 
 abbrev pub quietData : Data → Bool
 quietData (WriteLine l) = false
@@ -43,27 +33,6 @@ quietData (WriteSpecial s) = quietSpecial s
 abbrev pub quiet : Asked → Bool
 quiet (Read k) = true
 quiet (Write k x) = quietData x
-
--- a column of the table other than Stop
-special-quiet : (s : Special) (mode : Mode) → mode ≢ M.the-variants.Stop → allowed s mode ≡ true → quietSpecial s ≡ true
-unfolding allowed
-special-quiet s M.the-variants.Stop ne e = absurd (ne refl)
-special-quiet Stop M.the-variants.Pause ne e = refl
-special-quiet Stop M.the-variants.Auto ne e = refl
-special-quiet Pause M.the-variants.Pause ne e = refl
-special-quiet Pause M.the-variants.Auto ne e = refl
-special-quiet Start M.the-variants.Pause ne e = e
-special-quiet Start M.the-variants.Auto ne e = e
-special-quiet Continue M.the-variants.Pause ne e = refl
-special-quiet Continue M.the-variants.Auto ne e = refl
-special-quiet StartAt M.the-variants.Pause ne e = e
-special-quiet StartAt M.the-variants.Auto ne e = e
-special-quiet Execute M.the-variants.Pause ne e = e
-special-quiet Execute M.the-variants.Auto ne e = e
-special-quiet Load M.the-variants.Pause ne e = e
-special-quiet Load M.the-variants.Auto ne e = e
-special-quiet Save M.the-variants.Pause ne e = e
-special-quiet Save M.the-variants.Auto ne e = e
 
 abbrev QuietData : Data → Type 0
 QuietData x = quietData x ≡ true

@@ -10,14 +10,14 @@ use Rattle.formats.specs.Digits.{numberIn, hIn, dIn}
 use Rattle.lines.specs.Line.{part}
 use Rattle.lines.specs.Text.{lineIn}
 use Rattle.wire.specs.declared.Wire.{Wire}
-use Rattle.wire.specs.declared.Mode.{Mode}
-use Rattle.wire.specs.declared.Mode.the-variants.{Stop, Pause, Auto}
+use Rattle.special.specs.declared.Mode.{Mode}
+use Rattle.special.specs.declared.Mode.the-variants.{Stop, Pause, Auto}
 use Rattle.wire.specs.declared.Data.{Data}
 use Rattle.wire.specs.declared.Data.the-variants.{WriteLine, WriteOutputs, WriteParameter, WriteSpecial}
 use Rattle.wire.specs.declared.Asked.{Asked}
 use Rattle.wire.specs.declared.Asked.the-variants.{Read, Write}
 use Rattle.wire.specs.Collecting.{sent}
-use Rattle.wire.specs.Special.{allowed, specialOf, inReach}
+use Rattle.special.specs.Special.{allowed, specialOf, inReach}
 
 abbrev pub char : List ℕ → ℕ → ℕ
 char cs i = getD cs i 0

@@ -1,5 +1,4 @@
 pub mod Collecting
-pub mod Special
 pub mod Command
 pub mod Naming
 pub mod Invariant

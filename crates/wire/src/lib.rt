@@ -1,6 +1,7 @@
 // The wire: characters are collected, byte 13 ends a command, and the checks decide what it asks for.
 // So far the types and, in specs/, the definitions.
 use lines::Line;
+use special::Special;
 
 // What is collected, and where each direction stands.
 pub struct Wire {
@@ -13,25 +14,6 @@ pub struct Wire {
     pub nextread: u8,
     // the last address written, plus one: what I means in a write
     pub nextwrite: u8,
-}
-
-// The three states of the table of special commands.
-pub enum Mode {
-    Stop,
-    Pause,
-    Auto,
-}
-
-// The eight special commands, 001 to 008.
-pub enum Special {
-    Stop,
-    Pause,
-    Start,
-    Continue,
-    StartAt,
-    Execute,
-    Load,
-    Save,
 }
 
 // The data of a write that passes all checks.

@@ -4,10 +4,10 @@ use Prim.Native.Nat.{ℕ}
 use mathlib.Core.Bool.{Bool, true, false}
 use lib.Dec.{eqb, leb}
 use Rattle.formats.specs.Checks.{if_then_else_, Res, refused, passed}
-use Rattle.wire.specs.declared.Mode as M
-use Rattle.wire.specs.declared.Mode.{Mode}
-use Rattle.wire.specs.declared.Special.{Special}
-use Rattle.wire.specs.declared.Special.the-variants.{Stop, Pause, Start, Continue, StartAt, Execute, Load, Save}
+use Rattle.special.specs.declared.Mode as M
+use Rattle.special.specs.declared.Mode.{Mode}
+use Rattle.special.specs.declared.Special.{Special}
+use Rattle.special.specs.declared.Special.the-variants.{Stop, Pause, Start, Continue, StartAt, Execute, Load, Save}
 
 -- running also when paused
 abbrev pub modeOf : Bool → Bool → Mode
