@@ -10,7 +10,7 @@ use Rattle.formats.specs.Digits.{digits, number, h, d, 2d}
 use Rattle.lines.specs.declared.Line.{Line}
 use Rattle.lines.specs.Line.{readLine}
 use Rattle.lines.specs.Program.{lineAt}
-use Rattle.lines.specs.Text.{lineText}
+use Rattle.texts.specs.Text.{lineText}
 use Rattle.running.specs.Running.{counter}
 use Rattle.controller.specs.declared.Controller.{Controller}
 

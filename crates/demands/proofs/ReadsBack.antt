@@ -12,8 +12,8 @@ use Rattle.formats.specs.Checks.{Res, refused, passed, text}
 use Rattle.formats.specs.Digits.{errorText}
 use Rattle.formats.proofs.Checks.{both-true, ok-at}
 use Rattle.lines.specs.declared.Line.{Line}
-use Rattle.lines.specs.Text.{lineText}
-use Rattle.lines.proofs.Texts.{Sent}
+use Rattle.texts.specs.Text.{lineText}
+use Rattle.texts.proofs.Texts.{Sent}
 use Rattle.wire.specs.declared.Asked.{Asked}
 use Rattle.wire.specs.declared.Asked.the-variants.{Write}
 use Rattle.wire.specs.declared.Data.the-variants.{WriteLine}

@@ -5,7 +5,7 @@ use Rattle.formats.specs.Checks as Checks
 use Rattle.formats.specs.Digits as Digits
 use Rattle.lines.specs.Line as Line
 use Rattle.lines.specs.Program as Program
-use Rattle.lines.specs.Text as Text
+use Rattle.texts.specs.Text as Text
 use Rattle.running.specs.Running as Running
 use Rattle.log.specs.Record as Record
 use Rattle.log.specs.Log as Log

@@ -41,7 +41,7 @@ char-of-value c =
 
 -- ---- many
 
-all-values : (base : ℕ) (cs : List ℕ) → all (isBelow base) (map digitValue cs) ≡ all (isDigit base) cs
+pub all-values : (base : ℕ) (cs : List ℕ) → all (isBelow base) (map digitValue cs) ≡ all (isDigit base) cs
 all-values base [] = refl
 all-values base (c ∷ cs) = ap (λ b. isDigit base c && b) (all-values base cs)
 

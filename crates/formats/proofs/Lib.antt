@@ -1,3 +1,5 @@
 pub mod Checks
 pub mod Digits
 pub mod Characters
+pub mod Loops
+pub mod Answers

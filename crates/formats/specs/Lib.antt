@@ -1,2 +1,3 @@
 pub mod Checks
 pub mod Digits
+pub mod Values

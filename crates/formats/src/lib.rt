@@ -1,2 +1,154 @@
-// The formats in which numbers and texts stand on the wire, in a program line and in a log record.
-// So far the definitions alone, in specs/.
+// The formats in which numbers and texts stand on the wire: characters as digits, numbers read from characters, and texts of at
+// most 16 characters, the longest reply, that numbers are shown in.
+// Definitions: specs/Digits.antt for what a number's characters are, specs/Values.antt for what the types below stand for.
+ghost use mathlib.Core.Path.{_≡_};
+ghost use mathlib.Core.List.{[], _∷_, _++_};
+ghost use Prim.Native.Nat.{_+_, _≤_, _<_};
+ghost use lib.ListN.{length, drop};
+ghost use Rattle.formats.specs.Digits.{digitValue, digitChar, shown, numberIn, hIn, dIn};
+ghost use Rattle.formats.specs.Values.{numberOf, byteOf, textOf};
+
+// What characters stand for: a number, or none.
+pub enum Number {
+    Is(u32),
+    No,
+}
+
+// What the data of a write stand for: a byte, or the number of the error.
+pub enum Byte {
+    Is(u8),
+    Error(u8),
+}
+
+// The first `len` characters are the text.
+pub struct Text {
+    pub chars: [u8; 16],
+    pub len: usize,
+}
+
+// The value of a digit's character; 16 for every other character.
+pub fn digit_value(c: u8) -> u8
+    ensures value { λ r. ⌜ r ≡ digitValue c ⌝ }
+{
+    if c < b'0' {
+        return 16;
+    }
+    if c <= b'9' {
+        return c - b'0';
+    }
+    if c < b'A' {
+        return 16;
+    }
+    if c <= b'F' {
+        return c - b'A' + 10;
+    }
+    16
+}
+
+// The character of a digit.
+pub fn digit_char(v: u8) -> u8
+    requires { ⌜ v < 16 ⌝ }
+    ensures character { λ r. ⌜ r ≡ digitChar v ⌝ }
+{
+    if v < 10 {
+        return b'0' + v;
+    }
+    b'A' + (v - 10)
+}
+
+// The number that the characters are to a base, at most eight of them.
+pub fn number_in(cs: &[u8], base: u32) -> Number
+    requires { ⌜ (length (now cs) ≤ 8) × (2 ≤ base) × (base ≤ 16) ⌝ }
+    ensures number { λ r. ⌜ r ≡ numberOf (numberIn base 3 (now (cs .entry))) ⌝ }
+{
+    let mut v: u32 = 0;
+    let mut i: usize = 0;
+    while i < cs.len() {
+        let d = digit_value(cs[i]) as u32;
+        if base <= d {
+            return Number::No;
+        }
+        v = v * base + d;
+        i += 1;
+    }
+    Number::Is(v)
+}
+
+// The format h: two hex digits. E002 for another number of characters, E003 for others than digits.
+pub fn h_in(cs: &[u8]) -> Byte
+    ensures h { λ r. ⌜ r ≡ byteOf (hIn (now (cs .entry))) ⌝ }
+{
+    if cs.len() != 2 {
+        return Byte::Error(2);
+    }
+    let Number::Is(v) = number_in(cs, 16) else {
+        return Byte::Error(3);
+    };
+    Byte::Is((v % 256) as u8)
+}
+
+// The format d: three decimal digits to 255. E002 for another number of characters, E003 for others than digits and above 255.
+pub fn d_in(cs: &[u8]) -> Byte
+    ensures d { λ r. ⌜ r ≡ byteOf (dIn (now (cs .entry))) ⌝ }
+{
+    if cs.len() != 3 {
+        return Byte::Error(2);
+    }
+    let Number::Is(v) = number_in(cs, 10) else {
+        return Byte::Error(3);
+    };
+    if 255 < v {
+        return Byte::Error(3);
+    }
+    Byte::Is(v as u8)
+}
+
+impl Text {
+    pub fn new() -> Text
+        ensures none { λ r. ⌜ (textOf r ≡ []) × (r .len ≡ 0) ⌝ }
+    {
+        Text {
+            chars: [0; 16],
+            len: 0,
+        }
+    }
+
+    // One character more.
+    pub fn with(mut self, c: u8) -> Text
+        requires { ⌜ self .len < 16 ⌝ }
+        ensures more { λ r. ⌜ (textOf r ≡ textOf self ++ (c ∷ [])) × (r .len ≡ self .len + 1) ⌝ }
+    {
+        let at = self.len;
+        self.chars[at] = c;
+        self.len = at + 1;
+        self
+    }
+
+    // A number more, in n digits to a base.
+    pub fn shown(self, base: u32, n: usize, v: u32) -> Text
+        requires { ⌜ (self .len + n ≤ 16) × (2 ≤ base) × (base ≤ 16) ⌝ }
+        ensures more { λ r. ⌜ (textOf r ≡ textOf self ++ shown base n v) × (r .len ≡ self .len + n) ⌝ }
+    {
+        if n == 0 {
+            return self;
+        }
+        let front = self.shown(base, n - 1, v / base);
+        let last = (v % base) as u8;
+        front.with(digit_char(last))
+    }
+
+    // The text is written to the start of an area, and the bytes after it stay. Its length is returned.
+    pub fn put(self, area: &mut [u8]) -> usize
+        requires { ⌜ (self .len ≤ 16) × (16 ≤ length (now area)) ⌝ }
+        ensures written { λ r. ⌜ (now (area .exit) ≡ textOf self ++ drop (length (textOf self)) (now (area .entry))) × (r ≡ length (textOf self)) ⌝ }
+    {
+        let len = self.len;
+        let chars = self.chars;
+        let mut i: usize = 0;
+        while i < len {
+            area[i] = chars[i];
+            i += 1;
+        }
+        len
+    }
+}

@@ -1,3 +1,6 @@
 pub mod Lines
+pub mod Fields
 pub mod Places
-pub mod Texts
+pub mod Writing
+pub mod Search
+pub mod Cleaning

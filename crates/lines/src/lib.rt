@@ -1,8 +1,221 @@
-// A line of the program: what its eight bytes say, and how it stands on the wire.
-// 01, 'Variables': "A line is 8 bytes." So far the type and, in specs/, the definitions.
+// A line of the program: what its eight bytes say, how it is written back, and the search for a Next among 200 of them.
+// 01, 'Variables': "A line is 8 bytes."
+ghost use mathlib.Core.Path.{_≡_};
+ghost use mathlib.Core.Bool.{_&&_};
+ghost use Prim.Native.Nat.{_+_, _*_, _≤_, _<_};
+ghost use lib.ListN.{length};
+ghost use lib.Dec.{eqb, leb};
+ghost use Rattle.formats.specs.Checks.{if_then_else_};
+ghost use Rattle.lines.specs.declared.Line.the-variants.{State, For, Next};
+ghost use Rattle.lines.specs.Line.{endMark, isCounter, readLine, bytesOf};
+ghost use Rattle.lines.specs.Program.{lineAt, putLine, cleaned, isNextOf, nextAfter};
 
 pub enum Line {
     State { outputs: u32, time: u16 },
     For { counter: u8, count: u16 },
     Next { counter: u8 },
+}
+
+// ---- eight bytes read as a line
+
+// Two bytes as a number, high byte first.
+fn two(a: u8, b: u8) -> u16
+    ensures number { λ r. ⌜ r ≡ a * 256 + b ⌝ }
+{
+    (a as u16) * 256 + (b as u16)
+}
+
+// Four bytes as a number, high byte first.
+fn four(a: u8, b: u8, c: u8, d: u8) -> u32
+    ensures number { λ r. ⌜ r ≡ ((a * 256 + b) * 256 + c) * 256 + d ⌝ }
+{
+    (((a as u32) * 256 + (b as u32)) * 256 + (c as u32)) * 256 + (d as u32)
+}
+
+// A loop counter is 1 to 4.
+fn is_counter(c: u8) -> bool
+    ensures test { λ r. ⌜ r ≡ isCounter c ⌝ }
+{
+    if c < 1 {
+        return false;
+    }
+    c <= 4
+}
+
+// The line of eight bytes that begin with 53, by the byte after it and the numbers in the other six.
+fn state_line(second: u8, outputs: u32, time: u16) -> Line
+    ensures line { λ r. ⌜ r ≡ (if eqb second 0 && leb time 9999 then State outputs time else endMark) ⌝ }
+{
+    if second != 0 {
+        return Line::State { outputs: 0, time: 0 };
+    }
+    if 9999 < time {
+        return Line::State { outputs: 0, time: 0 };
+    }
+    Line::State { outputs, time }
+}
+
+// The line of eight bytes that begin with 46, by the counter, the count and the number in the last four bytes.
+fn for_line(counter: u8, count: u16, rest: u32) -> Line
+    ensures line {
+        λ r. ⌜ r ≡ (if isCounter counter && leb count 9999 && eqb rest 0 then For counter count else endMark) ⌝
+    }
+{
+    if !is_counter(counter) {
+        return Line::State { outputs: 0, time: 0 };
+    }
+    if 9999 < count {
+        return Line::State { outputs: 0, time: 0 };
+    }
+    if rest != 0 {
+        return Line::State { outputs: 0, time: 0 };
+    }
+    Line::For { counter, count }
+}
+
+// The line of eight bytes that begin with 4E, by the counter and the numbers in the two bytes and the four after it.
+fn next_line(counter: u8, high: u16, low: u32) -> Line
+    ensures line {
+        λ r. ⌜ r ≡ (if isCounter counter && eqb (high * 4294967296 + low) 0 then Next counter else endMark) ⌝
+    }
+{
+    if !is_counter(counter) {
+        return Line::State { outputs: 0, time: 0 };
+    }
+    if high != 0 {
+        return Line::State { outputs: 0, time: 0 };
+    }
+    if low != 0 {
+        return Line::State { outputs: 0, time: 0 };
+    }
+    Line::Next { counter }
+}
+
+// The line that the first eight bytes say; the end mark with outputs 0 where they say none.
+pub fn read_line(b: &[u8]) -> Line
+    requires { ⌜ 8 ≤ length (now b) ⌝ }
+    ensures line { λ r. ⌜ r ≡ readLine (now (b .entry)) ⌝ }
+{
+    let first = b[0];
+    let second = b[1];
+    let b2 = b[2];
+    let b3 = b[3];
+    let b4 = b[4];
+    let b5 = b[5];
+    let b6 = b[6];
+    let b7 = b[7];
+    if first == 0x53 {
+        return state_line(second, four(b2, b3, b4, b5), two(b6, b7));
+    }
+    let high = two(b2, b3);
+    let low = four(b4, b5, b6, b7);
+    if first == 0x46 {
+        return for_line(second, high, low);
+    }
+    if first == 0x4E {
+        return next_line(second, high, low);
+    }
+    Line::State { outputs: 0, time: 0 }
+}
+
+// Line k of a program.
+pub fn line_at(p: &[u8], k: usize) -> Line
+    requires { ⌜ (k < 200) × (8 * k + 8 ≤ length (now p)) ⌝ }
+    ensures line { λ r. ⌜ r ≡ lineAt (now (p .entry)) k ⌝ }
+{
+    read_line(&p[8 * k..])
+}
+
+// ---- a line written as eight bytes
+
+// The eight bytes of a line.
+pub fn bytes_of(l: Line) -> [u8; 8]
+    ensures bytes { λ r. ⌜ r ≡ bytesOf l ⌝ }
+{
+    match l {
+        Line::State { outputs, time } => [
+            0x53,
+            0,
+            (outputs / 256 / 256 / 256 % 256) as u8,
+            (outputs / 256 / 256 % 256) as u8,
+            (outputs / 256 % 256) as u8,
+            (outputs % 256) as u8,
+            (time / 256 % 256) as u8,
+            (time % 256) as u8,
+        ],
+        Line::For { counter, count } => [
+            0x46,
+            counter,
+            (count / 256 % 256) as u8,
+            (count % 256) as u8,
+            0,
+            0,
+            0,
+            0,
+        ],
+        Line::Next { counter } => [0x4E, counter, 0, 0, 0, 0, 0, 0],
+    }
+}
+
+// The eight bytes of a line, in their place.
+fn write_line(to: &mut [u8], l: Line)
+    requires { ⌜ length (now to) ≡ 8 ⌝ }
+    ensures bytes { λ _. ⌜ now (to .exit) ≡ bytesOf l ⌝ }
+{
+    let b = bytes_of(l);
+    to[0] = b[0];
+    to[1] = b[1];
+    to[2] = b[2];
+    to[3] = b[3];
+    to[4] = b[4];
+    to[5] = b[5];
+    to[6] = b[6];
+    to[7] = b[7];
+}
+
+// Line k of a program is written; every other byte stays.
+pub fn put_line(p: &mut [u8], k: usize, l: Line)
+    requires { ⌜ (k < 200) × (8 * k + 8 ≤ length (now p)) ⌝ }
+    ensures program { λ _. ⌜ now (p .exit) ≡ putLine k l (now (p .entry)) ⌝ }
+{
+    write_line(&mut p[8 * k..8 * k + 8], l);
+}
+
+// ---- all lines
+
+// A Next of counter c.
+fn is_next_of(c: u8, l: Line) -> bool
+    ensures test { λ r. ⌜ r ≡ isNextOf c l ⌝ }
+{
+    if let Line::Next { counter } = l {
+        return c == counter;
+    }
+    false
+}
+
+// The first Next of counter c on a line later than k; 200 where there is none.
+pub fn next_after(p: &[u8], c: u8, k: u8) -> u8
+    requires { ⌜ (length (now p) ≡ 1600) × (k < 200) ⌝ }
+    ensures line { λ r. ⌜ r ≡ nextAfter (now (p .entry)) c k ⌝ }
+{
+    let mut i = k + 1;
+    while i < 200 {
+        if is_next_of(c, line_at(p, i as usize)) {
+            return i;
+        }
+        i += 1;
+    }
+    200
+}
+
+// Each of the 200 lines as the line that it is read as: the cleaned form.
+pub fn clean(from: &[u8], to: &mut [u8])
+    requires { ⌜ (length (now from) ≡ 1600) × (length (now to) ≡ 1600) ⌝ }
+    ensures program { λ _. ⌜ now (to .exit) ≡ cleaned (now (from .entry)) ⌝ }
+{
+    let mut i: usize = 0;
+    while i < 200 {
+        put_line(to, i, line_at(from, i));
+        i += 1;
+    }
 }

@@ -1,5 +1,8 @@
 // The special commands: their codes, when each is allowed, and how far its parameter reaches.
-// So far the types and, in specs/, the definitions.
+// The types, the table of when each is allowed, and a function for each rule.
+ghost use mathlib.Core.Path.{_≡_};
+ghost use Rattle.special.specs.Special.{modeOf, allowed, codeOf, specialOf, inReach};
+ghost use Rattle.special.specs.Named.{namedOf};
 
 // The three states of the table of special commands.
 pub enum Mode {
@@ -18,4 +21,114 @@ pub enum Special {
     Execute,
     Load,
     Save,
+}
+
+// The special command of a code, or the error.
+pub enum Named {
+    Is(Special),
+    Error(u8),
+}
+
+// The table of special commands: a row of three for each, for the states Stop, Pause and Auto; 1 for allowed.
+const ALLOWED: [u8; 24] = [
+    1, // 001 stop, Stop
+    1, // 001 stop, Pause
+    1, // 001 stop, Auto
+    0, // 002 pause, Stop
+    1, // 002 pause, Pause
+    1, // 002 pause, Auto
+    1, // 003 start, Stop
+    0, // 003 start, Pause
+    0, // 003 start, Auto
+    0, // 004 continue, Stop
+    1, // 004 continue, Pause
+    0, // 004 continue, Auto
+    1, // 005 start at, Stop
+    0, // 005 start at, Pause
+    0, // 005 start at, Auto
+    1, // 006 execute one line, Stop
+    0, // 006 execute one line, Pause
+    0, // 006 execute one line, Auto
+    1, // 007 load, Stop
+    0, // 007 load, Pause
+    0, // 007 load, Auto
+    1, // 008 save, Stop
+    0, // 008 save, Pause
+    0, // 008 save, Auto
+];
+
+// The state of the table: a box that is paused is running too.
+pub fn mode_of(on: bool, paused: bool) -> Mode
+    ensures state { λ r. ⌜ r ≡ modeOf on paused ⌝ }
+{
+    if on {
+        if paused {
+            return Mode::Pause;
+        }
+        return Mode::Auto;
+    }
+    Mode::Stop
+}
+
+// The code of a special command.
+pub fn code_of(s: Special) -> u8
+    ensures code { λ r. ⌜ r ≡ codeOf s ⌝ }
+{
+    match s {
+        Special::Stop => 1,
+        Special::Pause => 2,
+        Special::Start => 3,
+        Special::Continue => 4,
+        Special::StartAt => 5,
+        Special::Execute => 6,
+        Special::Load => 7,
+        Special::Save => 8,
+    }
+}
+
+// The special command of a code.
+pub fn special_of(n: u8) -> Named
+    ensures named { λ r. ⌜ r ≡ namedOf (specialOf n) ⌝ }
+{
+    match n {
+        1 => Named::Is(Special::Stop),
+        2 => Named::Is(Special::Pause),
+        3 => Named::Is(Special::Start),
+        4 => Named::Is(Special::Continue),
+        5 => Named::Is(Special::StartAt),
+        6 => Named::Is(Special::Execute),
+        7 => Named::Is(Special::Load),
+        8 => Named::Is(Special::Save),
+        _ => Named::Error(3),
+    }
+}
+
+// Whether a special command is allowed in a state: its entry in the table.
+pub fn is_allowed(s: Special, mode: Mode) -> bool
+    ensures table { λ r. ⌜ r ≡ allowed s mode ⌝ }
+{
+    let row = code_of(s) as usize - 1;
+    let column: usize = match mode {
+        Mode::Stop => 0,
+        Mode::Pause => 1,
+        Mode::Auto => 2,
+    };
+    let at = 3 * row + column;
+    ALLOWED[at] == 1
+}
+
+// Whether the parameter is within reach of a special command.
+pub fn in_reach(s: Special, parameter: u8) -> bool
+    ensures reach { λ r. ⌜ r ≡ inReach s parameter ⌝ }
+{
+    match s {
+        Special::StartAt => parameter <= 199,
+        Special::Execute => parameter <= 200,
+        Special::Stop => true,
+        Special::Pause => true,
+        Special::Start => true,
+        Special::Continue => true,
+        Special::Load => true,
+        Special::Save => true,
+    }
 }

@@ -11,9 +11,9 @@ use Rattle.formats.specs.Checks.{passed, _>>=_, _>>_, _orElse_, text}
 use Rattle.formats.specs.Digits.{hIn, dIn}
 use Rattle.formats.proofs.Checks.{if-case, Ok, ok-bind, ok-passed, ok-guard}
 use Rattle.lines.specs.declared.Line.{Line}
-use Rattle.lines.specs.Text.{lineText, lineIn}
+use Rattle.texts.specs.Text.{lineText, lineIn}
 use Rattle.lines.proofs.Lines.{Fits}
-use Rattle.lines.proofs.Texts.{Sent, accepted-shows, text-accepted}
+use Rattle.texts.proofs.Texts.{Sent, accepted-shows, text-accepted}
 use Rattle.wire.specs.declared.Wire.{Wire}
 use Rattle.special.specs.declared.Mode.{Mode}
 use Rattle.special.specs.declared.Mode.the-variants.{Stop}

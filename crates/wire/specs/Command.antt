@@ -8,7 +8,7 @@ use lib.Dec.{leb, eqb}
 use Rattle.formats.specs.Checks.{if_then_else_, Res, passed, _>>=_, _>>_, _orElse_}
 use Rattle.formats.specs.Digits.{numberIn, hIn, dIn}
 use Rattle.lines.specs.Line.{part}
-use Rattle.lines.specs.Text.{lineIn}
+use Rattle.texts.specs.Text.{lineIn}
 use Rattle.wire.specs.declared.Wire.{Wire}
 use Rattle.special.specs.declared.Mode.{Mode}
 use Rattle.special.specs.declared.Mode.the-variants.{Stop, Pause, Auto}

@@ -14,15 +14,15 @@ use Rattle.formats.specs.Checks.{Res, refused, passed, _>>=_, _>>_, _orElse_, t
 use Rattle.formats.specs.Digits.{shown, numberIn}
 use Rattle.formats.proofs.Checks.{if-case, both-true, Ok, ok-bind, ok-guard}
 use Rattle.formats.proofs.Characters.{length-shown, shown-back, read-shows, read-fits}
 use Rattle.lines.specs.declared.Line.{Line}
 use Rattle.lines.specs.declared.Line.the-variants.{State, For, Next}
 use Rattle.lines.specs.Line.{isCounter, part}
-use Rattle.lines.specs.Text.{lineText, lineLength, counterIn, stateIn, forIn, nextIn, lineIn}
+use Rattle.texts.specs.Text.{lineText, lineLength, counterIn, stateIn, forIn, nextIn, lineIn}
 use Rattle.lines.proofs.Lines.{Fits}
 
 -- ---- parts of the characters
 
-part-length : (from n : ℕ) (cs : List ℕ) → from + n ≤ length cs → length (part from n cs) ≡ n
+pub part-length : (from n : ℕ) (cs : List ℕ) → from + n ≤ length cs → length (part from n cs) ≡ n
 part-length from n cs le = simp (length-take, length-drop) (omega arith)
 
 part-and-rest : (from n to : ℕ) (cs : List ℕ) → from + n ≡ to → drop from cs ≡ part from n cs ++ drop to cs

@@ -1,0 +1,126 @@
+-- Laws for the loops that read a number and that write a text.
+-- Assumes nothing.
+use mathlib.Core.Path.{_≡_, refl, sym, ap, ap₂, _∙_}
+use Prim.Native.Nat.{ℕ, zero, suc, _+_, _-_, _*_, _/_, _%_, _^_, _≤_, _<_}
+use native.Mathlib.Omega.{arith}
+use native.Mathlib.Numerals.{add-one}
+use native.Mathlib.Nat.{not-suc-le-zero, le-trans, mod-lt, pow-le-pow-left, pow-le-pow-right}
+use mathlib.Core.Bool.{Bool, true, false, _&&_}
+use mathlib.Core.List.{List, [], _∷_, _++_, map, append-nil, append-assoc}
+use lib.ListN.{length, take, drop, getD, set, length-map}
+use lib.Seq.{take-suc, take-all, length-take-le, paste, paste-suc}
+use lib.Dec.{ltb}
+use borrow.Author.Tests.{lt-ltb, le-ltb}
+use Rattle.formats.specs.Checks.{Res, refused, passed, _>>_, _orElse_, all}
+use Rattle.formats.specs.Digits.{digits, numberAfter, number, digitChar, digitValue, isDigit, shown, numberIn}
+use Rattle.formats.specs.declared.Number.{Number}
+use Rattle.formats.specs.declared.Number.the-variants.{Is, No}
+use Rattle.formats.specs.Values.{numberOf}
+use Rattle.formats.proofs.Checks.{both-true, all-snoc}
+use Rattle.formats.proofs.Digits.{isBelow, number-snoc, number-below}
+use Rattle.formats.proofs.Characters.{all-values}
+
+map-snoc : (f : ℕ → ℕ) (xs : List ℕ) (x : ℕ) → map f (xs ++ (x ∷ [])) ≡ map f xs ++ (f x ∷ [])
+map-snoc f [] x = refl
+map-snoc f (y ∷ xs) x = ap (λ l. f y ∷ l) (map-snoc f xs x)
+
+not-all : (f : ℕ → Bool) (xs : List ℕ) (i : ℕ) → i < length xs → f (getD xs i 0) ≡ false → all f xs ≡ false
+not-all f [] i lt e = absurd (not-suc-le-zero lt)
+not-all f (x ∷ xs) zero lt e = rw e
+not-all f (x ∷ xs) (suc i) lt e = rw (not-all f xs i (omega arith) e) (and-false (f x))
+  where
+    and-false : (b : Bool) → (b && false) ≡ false
+    and-false true = refl
+    and-false false = refl
+
+-- ---- reading a number: what holds after i characters
+
+pub record Read (base : ℕ) (cs : List ℕ) (i v : ℕ) : Type 0 where
+  pub digits : all (isDigit base) (take i cs) ≡ true
+  pub value : v ≡ number base (map digitValue (take i cs))
+
+pub read-none : (base : ℕ) (cs : List ℕ) → Read base cs 0 0
+unfolding numberAfter
+read-none base cs = record { digits = refl; value = refl }
+
+-- the next character has the value d
+module _ (base : ℕ) (cs : List ℕ) (i v d : ℕ) (lt : i < length cs) (r : Read base cs i v) (is : d ≡ digitValue (getD cs i 0)) where
+  -- it is no digit
+  pub read-bad : base ≤ d → No ≡ numberOf (numberIn base 3 cs)
+  unfolding numberIn _>>_ _orElse_
+  read-bad le = rw (not-all (isDigit base) cs i lt (le-ltb (digitValue (getD cs i 0)) base (rw is at le)))
+
+  -- it is one digit more
+  pub read-more : d < base → Read base cs (i + 1) (v * base + d)
+  unfolding numberAfter
+  read-more below =
+      let e : take (i + 1) cs ≡ take i cs ++ (getD cs i 0 ∷ []) = ap (λ n. take n cs) (add-one i) ∙ take-suc cs i 0 lt in
+      record {
+        digits = ap (all (isDigit base)) e ∙ all-snoc (isDigit base) (take i cs) (getD cs i 0) (r .digits) (lt-ltb (digitValue (getD cs i 0)) base (rw is at below));
+        value =
+            ap₂ (λ w x. w * base + x) (r .value) is
+            ∙ sym (ap (λ l. number base (map digitValue l)) e ∙ ap (number base) (map-snoc digitValue (take i cs) (getD cs i 0))
+            ∙ number-snoc base 0 (map digitValue (take i cs)) (digitValue (getD cs i 0)));
+      }
+
+-- at most eight digits to a base of at most 16 fit 32 bits
+pub read-fits-u32 : (base : ℕ) (cs : List ℕ) (i v : ℕ) → base ≤ 16 → 2 ≤ base → i ≤ 8 → i ≤ length cs → Read base cs i v → v < 4294967296
+read-fits-u32 base cs i v le two eight inside r =
+    let below : number base (map digitValue (take i cs)) < base ^ length (map digitValue (take i cs)) =
+    number-below base (map digitValue (take i cs)) (all-values base (take i cs) ∙ r .digits) in
+    let len : length (map digitValue (take i cs)) ≡ i = length-map (take i cs) digitValue ∙ length-take-le i cs inside in
+    let wide : base ^ i ≤ 16 ^ 8 = le-trans (pow-le-pow-left le i) (pow-le-pow-right (omega arith) eight) in
+    let fits : number base (map digitValue (take i cs)) < base ^ i = rw len at below in
+    omega (arith, r .value)
+
+pub read-all : (base : ℕ) (cs : List ℕ) (i v : ℕ) → length cs ≤ i → Read base cs i v → Is v ≡ numberOf (numberIn base 3 cs)
+unfolding numberIn _>>_ _orElse_
+read-all base cs i v le r =
+    let e : take i cs ≡ cs = take-all i cs le in
+    let d : all (isDigit base) cs ≡ true = rw e at (r .digits) in
+    let w : v ≡ number base (map digitValue cs) = rw e at (r .value) in
+    rw (d, w)
+
+-- one digit more still fits
+pub more-fits-u32 : (base : ℕ) (cs : List ℕ) (i v d : ℕ) → base ≤ 16 → 2 ≤ base → length cs ≤ 8 → i < length cs → Read base cs i v → d ≡ digitValue (getD cs i 0)
+    → d < base → v * base + d < 4294967296
+more-fits-u32 base cs i v d le two eight lt r is below =
+    read-fits-u32 base cs (i + 1) (v * base + d) le two (omega arith) (omega arith) (read-more base cs i v d lt r is below)
+
+-- ---- writing a text
+
+-- one character more
+pub put-more : (area₀ chars area : List ℕ) (i : ℕ) → area ≡ paste area₀ 0 chars i → i < length area₀ → i < length chars
+    → set area i (getD chars i 0) ≡ paste area₀ 0 chars (i + 1)
+put-more area₀ chars area i e a b =
+    let z : 0 + i ≡ i = omega arith in
+    ap (λ l. set l i (getD chars i 0)) e ∙ ap (λ j. set (paste area₀ 0 chars i) j (getD chars i 0)) (sym z)
+    ∙ paste-suc area₀ 0 chars i 0 (omega arith) b ∙ ap (paste area₀ 0 chars) (sym (add-one i))
+
+-- what stands there after all turns
+
+pub text-put : (area chars : List ℕ) (len : ℕ) → len ≤ length chars → (paste area 0 chars len ≡ take len chars ++ drop (length (take len chars)) area) × (len ≡ length (take len chars))
+text-put area chars len le =
+    let e : length (take len chars) ≡ len = length-take-le len chars le in
+    let z : 0 + len ≡ len = omega arith in
+    (rw (z, e), sym e)
+
+-- ---- showing a number, digit by digit
+
+pub digit-below : (v base : ℕ) → 2 ≤ base → v % base < base
+digit-below v base le = mod-lt v (omega arith)
+
+pub show-none : (t : List ℕ) (base n v : ℕ) → n ≡ 0 → t ≡ t ++ shown base n v
+unfolding shown digits
+show-none t base n v e = rw e (sym (append-nil t))
+
+-- the text t, then the higher digits, then the last
+pub show-more : (t : List ℕ) (base n v : ℕ) {front all′ : List ℕ} {c : ℕ} → 1 ≤ n → front ≡ t ++ shown base (n - 1) (v / base) → c ≡ digitChar (v % base)
+    → all′ ≡ front ++ (c ∷ []) → all′ ≡ t ++ shown base n v
+unfolding shown digits
+show-more t base zero v le f d e = absurd (omega arith)
+show-more t base (suc n) v le f d e =
+    let one : suc n - 1 ≡ n = omega arith in
+    e ∙ ap₂ (λ l x. l ++ (x ∷ [])) (f ∙ ap (λ k. t ++ shown base k (v / base)) one) d
+    ∙ append-assoc t (shown base n (v / base)) (digitChar (v % base) ∷ [])
+    ∙ ap (λ l. t ++ l) (sym (map-snoc digitChar (digits base n (v / base)) (v % base)))

@@ -1,0 +1,28 @@
+use mathlib.Core.Path.{_≡_, refl, sym, ap, _∙_}
+use borrow.Author.Tests.{eq-eqb, ne-eqb, lt-leb, le-leb, not-true, not-false}
+use mathlib.Core.Path.{sym, _∙_}
+use borrow.Author.Tests.{eq-eqb, ne-eqb, lt-leb, le-leb}
+use borrow.Author.Needs.{needs}
+use Rattle.lines.proofs.for_line.Statement.{statement}
+use Rattle.lines.proofs.for_line.Tie as tie
+use Rattle.lines.proofs.for_line.Reads as reads
+use Rattle.lines.proofs.for_line.Lts as lts
+use Rattle.lines.proofs.is_counter.Reads as is-counter-reads
+
+is-counter-requires : tie.Need-is-counter-requires
+is-counter-requires c κs = search needs
+
+returns : tie.Need-returns
+returns c = simp (sym (c .before .is-counter .ensures) ∙ not-true _ (c .if1 .taken))
+
+returns-2 : tie.Need-returns-2
+returns-2 c = simp (sym (c .before .before .is-counter .ensures) ∙ not-false _ (c .before .if1 .left), lt-leb _ _ (c .if2 .taken))
+
+returns-3 : tie.Need-returns-3
+returns-3 c = simp (sym (c .before .before .before .is-counter .ensures) ∙ not-false _ (c .before .before .if1 .left), le-leb _ _ (c .before .if2 .left), ne-eqb _ _ (c .if3 .taken))
+
+returns-4 : tie.Need-returns-4
+returns-4 c = simp (sym (c .before .before .before .is-counter .ensures) ∙ not-false _ (c .before .before .if1 .left), le-leb _ _ (c .before .if2 .left), eq-eqb _ _ (c .if3 .left))
+
+pub for-line-spec : {M : Type 1} → statement M
+for-line-spec = tie.close (tie.spec is-counter-requires returns returns-2 returns-3 returns-4)

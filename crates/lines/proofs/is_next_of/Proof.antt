@@ -1,0 +1,18 @@
+use Rattle.lines.proofs.Search.{no-next}
+use borrow.Author.Needs.{needs}
+use Rattle.lines.proofs.is_next_of.Statement.{statement}
+use Rattle.lines.proofs.is_next_of.Tie as tie
+use Rattle.lines.proofs.is_next_of.Reads as reads
+use Rattle.lines.proofs.is_next_of.Lts as lts
+
+enum-known-l : tie.Need-enum-known-l
+enum-known-l c = search needs
+
+returns : tie.Need-returns
+returns c = simp (c .before .l .given .1)
+
+returns-2 : tie.Need-returns-2
+returns-2 c = no-next (c .before .args .c) (c .before .args .l) (c .match .keys2)
+
+pub is-next-of-spec : {M : Type 1} → statement M
+is-next-of-spec = tie.close (tie.spec enum-known-l returns returns-2)

@@ -1,0 +1,30 @@
+use Prim.Native.Nat.{_+_, _*_}
+use mathlib.Core.Path.{_≡_, refl, sym, ap, _∙_}
+use borrow.Author.Tests.{eq-eqb, ne-eqb, lt-leb, le-leb, not-true, not-false}
+use native.Mathlib.Omega.{arith}
+use mathlib.Core.Path.{sym, _∙_}
+use borrow.Author.Tests.{eq-eqb, ne-eqb, lt-leb, le-leb}
+use borrow.Author.Needs.{needs}
+use Rattle.lines.proofs.next_line.Statement.{statement}
+use Rattle.lines.proofs.next_line.Tie as tie
+use Rattle.lines.proofs.next_line.Reads as reads
+use Rattle.lines.proofs.next_line.Lts as lts
+use Rattle.lines.proofs.is_counter.Reads as is-counter-reads
+
+is-counter-requires : tie.Need-is-counter-requires
+is-counter-requires c κs = search needs
+
+returns : tie.Need-returns
+returns c = simp (sym (c .before .is-counter .ensures) ∙ not-true _ (c .if1 .taken))
+
+returns-2 : tie.Need-returns-2
+returns-2 c = simp (sym (c .before .before .is-counter .ensures) ∙ not-false _ (c .before .if1 .left), ne-eqb (c .before .before .before .args .high * 4294967296 + c .before .before .before .args .low) 0 (λ e. c .if2 .taken (omega arith)))
+
+returns-3 : tie.Need-returns-3
+returns-3 c = simp (sym (c .before .before .before .is-counter .ensures) ∙ not-false _ (c .before .before .if1 .left), ne-eqb (c .before .before .before .before .args .high * 4294967296 + c .before .before .before .before .args .low) 0 (λ e. c .if3 .taken (omega arith)))
+
+returns-4 : tie.Need-returns-4
+returns-4 c = simp (sym (c .before .before .before .is-counter .ensures) ∙ not-false _ (c .before .before .if1 .left), eq-eqb (c .before .before .before .before .args .high * 4294967296 + c .before .before .before .before .args .low) 0 (omega arith))
+
+pub next-line-spec : {M : Type 1} → statement M
+next-line-spec = tie.close (tie.spec is-counter-requires returns returns-2 returns-3 returns-4)

@@ -1,0 +1,29 @@
+-- Laws of parts of a list: one that is written over, one that is lent and comes back, one that is copied.
+-- Assumes nothing.
+use mathlib.Core.Path.{_≡_, ap, _∙_}
+use Prim.Native.Nat.{ℕ, _+_, _-_, _<_}
+use native.Mathlib.Nat.{zero-add}
+use native.Mathlib.Numerals.{add-one}
+use native.Mathlib.Omega.{arith}
+use mathlib.Core.List.{List, [], _++_, append-nil}
+use lib.ListN.{length, take, drop, set, getD}
+use lib.Seq.{sets, sets-eq, drop-length, drop-drop, paste-suc}
+use borrow.Rule.Slice.PartMut.{putMid}
+
+-- a list that is written over whole, from its first element to its last, is what was written
+pub written-over : (vs l : List ℕ) → length l ≡ length vs → sets l 0 vs ≡ vs
+written-over vs l e =
+    let n : 0 + length vs ≡ length l = omega arith in
+    let z : drop (0 + length vs) l ≡ [] = ap (λ (i : ℕ). drop i l) n ∙ drop-length l in
+    sets-eq vs l 0 (omega arith) ∙ rw z (append-nil vs)
+
+-- what comes back of a lent part `&mut xs[a..a + n]` that now holds ys
+pub given-back : (a n : ℕ) (xs ys : List ℕ) → putMid a (a + n - a) xs ys ≡ take a xs ++ (ys ++ drop (a + n) xs)
+given-back a n xs ys = let e : a + n - a ≡ n = omega arith in simp (e, drop-drop)
+
+-- one byte more of a copy
+pub copied-more : (from to : List ℕ) (i : ℕ) → i < length from → i < length to
+    → set (take i from ++ drop i to) i (getD from i 0) ≡ take (i + 1) from ++ drop (i + 1) to
+copied-more from to i hf ht =
+    let h : 0 + i < length to = omega arith in
+    rw add-one (simp zero-add at (paste-suc to 0 from i 0 h hf))

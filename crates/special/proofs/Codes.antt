@@ -1,0 +1,42 @@
+-- Laws of the codes of the special commands.
+-- Assumes nothing.
+use mathlib.Core.Path.{_≡_, refl}
+use Prim.Native.Nat.{_≤_}
+use lib.Dec.{lit≤}
+use Rattle.formats.specs.Checks.{passed}
+use Rattle.special.specs.declared.Special.{Special}
+use Rattle.special.specs.declared.Special.the-variants.{Stop, Pause, Start, Continue, StartAt, Execute, Load, Save}
+use Rattle.special.specs.Special.{codeOf, specialOf}
+
+-- the codes are 001 to 008
+pub code-low : (s : Special) → 1 ≤ codeOf s
+code-low Stop = lit≤ tt
+code-low Pause = lit≤ tt
+code-low Start = lit≤ tt
+code-low Continue = lit≤ tt
+code-low StartAt = lit≤ tt
+code-low Execute = lit≤ tt
+code-low Load = lit≤ tt
+code-low Save = lit≤ tt
+
+pub code-high : (s : Special) → codeOf s ≤ 8
+code-high Stop = lit≤ tt
+code-high Pause = lit≤ tt
+code-high Start = lit≤ tt
+code-high Continue = lit≤ tt
+code-high StartAt = lit≤ tt
+code-high Execute = lit≤ tt
+code-high Load = lit≤ tt
+code-high Save = lit≤ tt
+
+-- a code names its command
+pub code-back : (s : Special) → specialOf (codeOf s) ≡ passed s
+unfolding specialOf
+code-back Stop = refl
+code-back Pause = refl
+code-back Start = refl
+code-back Continue = refl
+code-back StartAt = refl
+code-back Execute = refl
+code-back Load = refl
+code-back Save = refl

@@ -1,0 +1,45 @@
+-- `texts::counter_in` meets its contract.
+-- Assumes nothing.
+use mathlib.Core.Path.{_≡_, sym, _∙_}
+use borrow.Author.Tests.{eq-eqb, ne-eqb, le-leb, lt-leb, lt-ltb}
+use Rattle.formats.specs.Checks.{_>>=_, _>>_, _orElse_}
+use Rattle.formats.proofs.Answers.{is-number, no-number}
+use Rattle.texts.specs.Text.{counterIn}
+use Rattle.texts.proofs.Answers.{time-fits, is-counter, no-counter, counter-fits}
+use native.Mathlib.Omega.{arith}
+use borrow.Author.Needs.{needs}
+use Rattle.texts.proofs.counter_in.Statement.{statement}
+use Rattle.texts.proofs.counter_in.Tie as tie
+use Rattle.texts.proofs.counter_in.Reads as reads
+use Rattle.texts.proofs.counter_in.Lts as lts
+use Rattle.formats.proofs.number_in.Reads as number-in-reads
+
+number-in-requires : tie.Need-number-in-requires
+number-in-requires c κs = search needs
+
+enum-known-c : tie.Need-enum-known-c
+enum-known-c c = search needs
+
+enum-told : tie.Need-enum-told
+enum-told c = search needs
+
+returns : tie.Need-returns
+unfolding counterIn _>>=_ _>>_ _orElse_
+returns c = simp (no-number 10 3 _ (sym (c .enum-told .given .1) ∙ c .before .before .number-in .ensures))
+
+returns-2 : tie.Need-returns-2
+unfolding counterIn _>>=_ _>>_ _orElse_
+returns-2 c = simp (is-number 10 3 _ _ (sym (c .before .before .c .given .1) ∙ c .before .before .before .before .number-in .ensures), lt-leb _ _ (c .if1 .taken))
+
+returns-3 : tie.Need-returns-3
+unfolding counterIn _>>=_ _>>_ _orElse_
+returns-3 c = simp (is-number 10 3 _ _ (sym (c .before .before .before .c .given .1) ∙ c .before .before .before .before .before .number-in .ensures), le-leb _ _ (c .before .if1 .left), lt-leb _ _ (c .if2 .taken))
+
+returns-4 : tie.Need-returns-4
+unfolding counterIn _>>=_ _>>_ _orElse_
+returns-4 c = simp (is-number 10 3 _ _ (sym (c .before .before .before .c .given .1) ∙ c .before .before .before .before .before .number-in .ensures), le-leb _ _ (c .before .if1 .left), le-leb _ _ (c .if2 .left))
+
+pub counter-in-spec : {M : Type 1} → statement M
+counter-in-spec =
+    tie.close
+    (tie.spec number-in-requires enum-known-c enum-told returns returns-2 returns-3 returns-4)

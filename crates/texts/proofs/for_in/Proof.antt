@@ -1,0 +1,96 @@
+-- `texts::for_in` meets its contract, part by part.
+-- Assumes nothing.
+use mathlib.Core.Path.{_≡_, sym, _∙_}
+use borrow.Author.Tests.{eq-eqb, ne-eqb, le-leb, lt-leb, lt-ltb}
+use Rattle.formats.specs.Checks.{_>>=_, _>>_, _orElse_}
+use Rattle.formats.proofs.Answers.{is-number, no-number}
+use Rattle.texts.specs.Text.{forIn}
+use Rattle.texts.proofs.Answers.{time-fits, is-counter, no-counter, counter-fits}
+use native.Mathlib.Omega.{arith}
+use borrow.Author.Needs.{needs}
+use Rattle.texts.proofs.for_in.Statement.{statement}
+use Rattle.texts.proofs.for_in.Tie as tie
+use Rattle.texts.proofs.for_in.Reads as reads
+use Rattle.texts.proofs.for_in.Lts as lts
+use Rattle.formats.proofs.number_in.Reads as number-in-reads
+use Rattle.texts.proofs.counter_in.Reads as counter-in-reads
+
+sub-counter-in : tie.Need-sub-counter-in
+sub-counter-in c = search needs
+
+part-counter-in-start : tie.Need-part-counter-in-start
+part-counter-in-start c = search needs
+
+part-counter-in-end : tie.Need-part-counter-in-end
+part-counter-in-end c = search needs
+
+counter-in-requires : tie.Need-counter-in-requires
+counter-in-requires c κs = search needs
+
+enum-known-counter : tie.Need-enum-known-counter
+enum-known-counter c = search needs
+
+enum-told : tie.Need-enum-told
+enum-told c = search needs
+
+returns : tie.Need-returns
+unfolding forIn _>>=_ _>>_ _orElse_
+returns c = simp (no-counter _ (sym (c .enum-told .given .1) ∙ c .before .before .counter-in .ensures))
+
+sub-number-in : tie.Need-sub-number-in
+sub-number-in c = search needs
+
+part-number-in-start : tie.Need-part-number-in-start
+part-number-in-start c = search needs
+
+part-number-in-end : tie.Need-part-number-in-end
+part-number-in-end c = search needs
+
+number-in-requires : tie.Need-number-in-requires
+number-in-requires c κs = search needs
+
+enum-known-count : tie.Need-enum-known-count
+enum-known-count c = search needs
+
+enum-told-2 : tie.Need-enum-told-2
+enum-told-2 c = search needs
+
+returns-2 : tie.Need-returns-2
+unfolding forIn _>>=_ _>>_ _orElse_
+returns-2 c = simp (is-counter _ _ (sym (c .before .before .before .before .before .counter .given .1) ∙ c .before .before .before .before .before .before .before .counter-in .ensures), no-number 10 3 _ (sym (c .enum-told2 .given .1) ∙ c .before .before .number-in .ensures))
+
+cast-counter : tie.Need-cast-counter
+cast-counter c = search needs
+
+cast-count : tie.Need-cast-count
+cast-count c = search needs
+
+returns-3 : tie.Need-returns-3
+unfolding forIn _>>=_ _>>_ _orElse_
+returns-3 c =
+    let cs = c .before .before .before .before .before .before .before .before .before .before .before .args .cs .now in
+    let k = (sym (c .before .before .before .before .before .before .counter .given .1) ∙ c .before .before .before .before .before .before .before .before .counter-in .ensures) in
+    let e = (sym (c .before .count .given .1) ∙ c .before .before .before .number-in .ensures) in
+    simp (is-counter _ _ k, counter-fits _ _ k, is-number 10 3 _ _ e, time-fits 2 _ cs (search needs) e)
+
+pub for-in-spec : {M : Type 1} → statement M
+for-in-spec =
+    tie.close
+    (tie.spec
+    sub-counter-in
+    part-counter-in-start
+    part-counter-in-end
+    counter-in-requires
+    enum-known-counter
+    enum-told
+    returns
+    sub-number-in
+    part-number-in-start
+    part-number-in-end
+    number-in-requires
+    enum-known-count
+    enum-told-2
+    returns-2
+    cast-counter
+    cast-count
+    returns-3)

@@ -1,0 +1,60 @@
+-- `texts::next_in` meets its contract.
+-- Assumes nothing.
+use mathlib.Core.Path.{_≡_, sym, _∙_}
+use borrow.Author.Tests.{eq-eqb, ne-eqb, le-leb, lt-leb, lt-ltb}
+use Rattle.formats.specs.Checks.{_>>=_, _>>_, _orElse_}
+use Rattle.formats.proofs.Answers.{is-number, no-number}
+use Rattle.texts.specs.Text.{nextIn}
+use Rattle.texts.proofs.Answers.{time-fits, is-counter, no-counter, counter-fits}
+use native.Mathlib.Omega.{arith}
+use borrow.Author.Needs.{needs}
+use Rattle.texts.proofs.next_in.Statement.{statement}
+use Rattle.texts.proofs.next_in.Tie as tie
+use Rattle.texts.proofs.next_in.Reads as reads
+use Rattle.texts.proofs.next_in.Lts as lts
+use Rattle.texts.proofs.counter_in.Reads as counter-in-reads
+
+sub-counter-in : tie.Need-sub-counter-in
+sub-counter-in c = search needs
+
+part-counter-in-start : tie.Need-part-counter-in-start
+part-counter-in-start c = search needs
+
+part-counter-in-end : tie.Need-part-counter-in-end
+part-counter-in-end c = search needs
+
+counter-in-requires : tie.Need-counter-in-requires
+counter-in-requires c κs = search needs
+
+enum-known-counter : tie.Need-enum-known-counter
+enum-known-counter c = search needs
+
+enum-told : tie.Need-enum-told
+enum-told c = search needs
+
+returns : tie.Need-returns
+unfolding nextIn _>>=_ _>>_ _orElse_
+returns c = simp (no-counter _ (sym (c .enum-told .given .1) ∙ c .before .before .counter-in .ensures))
+
+cast-counter : tie.Need-cast-counter
+cast-counter c = search needs
+
+returns-2 : tie.Need-returns-2
+unfolding nextIn _>>=_ _>>_ _orElse_
+returns-2 c =
+    let k = (sym (c .before .counter .given .1) ∙ c .before .before .before .counter-in .ensures) in
+    simp (is-counter _ _ k, counter-fits _ _ k)
+
+pub next-in-spec : {M : Type 1} → statement M
+next-in-spec =
+    tie.close
+    (tie.spec
+    sub-counter-in
+    part-counter-in-start
+    part-counter-in-end
+    counter-in-requires
+    enum-known-counter
+    enum-told
+    returns
+    cast-counter
+    returns-2)

@@ -1,0 +1,124 @@
+-- `texts::state_in` meets its contract, part by part.
+-- Assumes nothing.
+use mathlib.Core.Path.{_≡_, sym, _∙_}
+use borrow.Author.Tests.{eq-eqb, ne-eqb, le-leb, lt-leb, lt-ltb}
+use Rattle.formats.specs.Checks.{_>>=_, _>>_, _orElse_}
+use Rattle.formats.proofs.Answers.{is-number, no-number}
+use Rattle.texts.specs.Text.{stateIn}
+use Rattle.texts.proofs.Answers.{time-fits, is-counter, no-counter, counter-fits}
+use native.Mathlib.Omega.{arith}
+use borrow.Author.Needs.{needs}
+use Rattle.texts.proofs.state_in.Statement.{statement}
+use Rattle.texts.proofs.state_in.Tie as tie
+use Rattle.texts.proofs.state_in.Reads as reads
+use Rattle.texts.proofs.state_in.Lts as lts
+use Rattle.formats.proofs.number_in.Reads as number-in-reads
+
+sub-number-in : tie.Need-sub-number-in
+sub-number-in c = search needs
+
+part-number-in-start : tie.Need-part-number-in-start
+part-number-in-start c = search needs
+
+part-number-in-end : tie.Need-part-number-in-end
+part-number-in-end c = search needs
+
+number-in-requires : tie.Need-number-in-requires
+number-in-requires c κs = search needs
+
+enum-known-reserved : tie.Need-enum-known-reserved
+enum-known-reserved c = search needs
+
+enum-told : tie.Need-enum-told
+enum-told c = search needs
+
+returns : tie.Need-returns
+unfolding stateIn _>>=_ _>>_ _orElse_
+returns c = simp (no-number 10 3 _ (sym (c .enum-told .given .1) ∙ c .before .before .number-in .ensures))
+
+returns-2 : tie.Need-returns-2
+unfolding stateIn _>>=_ _>>_ _orElse_
+returns-2 c = simp (is-number 10 3 _ _ (sym (c .before .before .reserved .given .1) ∙ c .before .before .before .before .number-in .ensures), ne-eqb _ _ (c .if1 .taken))
+
+sub-number-in-2 : tie.Need-sub-number-in-2
+sub-number-in-2 c = search needs
+
+part-number-in-start-2 : tie.Need-part-number-in-start-2
+part-number-in-start-2 c = search needs
+
+part-number-in-end-2 : tie.Need-part-number-in-end-2
+part-number-in-end-2 c = search needs
+
+number-in-requires-2 : tie.Need-number-in-requires-2
+number-in-requires-2 c κs = search needs
+
+enum-known-outputs : tie.Need-enum-known-outputs
+enum-known-outputs c = search needs
+
+enum-told-2 : tie.Need-enum-told-2
+enum-told-2 c = search needs
+
+returns-3 : tie.Need-returns-3
+unfolding stateIn _>>=_ _>>_ _orElse_
+returns-3 c = simp (is-number 10 3 _ _ (sym (c .before .before .before .before .before .before .reserved .given .1) ∙ c .before .before .before .before .before .before .before .before .number-in .ensures), eq-eqb _ _ (c .before .before .before .before .if1 .left), no-number 16 3 _ (sym (c .enum-told2 .given .1) ∙ c .before .before .number-in2 .ensures))
+
+sub-number-in-3 : tie.Need-sub-number-in-3
+sub-number-in-3 c = search needs
+
+part-number-in-start-3 : tie.Need-part-number-in-start-3
+part-number-in-start-3 c = search needs
+
+part-number-in-end-3 : tie.Need-part-number-in-end-3
+part-number-in-end-3 c = search needs
+
+number-in-requires-3 : tie.Need-number-in-requires-3
+number-in-requires-3 c κs = search needs
+
+enum-known-time : tie.Need-enum-known-time
+enum-known-time c = search needs
+
+enum-told-3 : tie.Need-enum-told-3
+enum-told-3 c = search needs
+
+returns-4 : tie.Need-returns-4
+unfolding stateIn _>>=_ _>>_ _orElse_
+returns-4 c = simp (is-number 10 3 _ _ (sym (c .before .before .before .before .before .before .before .before .before .before .before .reserved .given .1) ∙ c .before .before .before .before .before .before .before .before .before .before .before .before .before .number-in .ensures), eq-eqb _ _ (c .before .before .before .before .before .before .before .before .before .if1 .left), is-number 16 3 _ _ (sym (c .before .before .before .before .before .outputs .given .1) ∙ c .before .before .before .before .before .before .before .number-in2 .ensures), no-number 10 3 _ (sym (c .enum-told3 .given .1) ∙ c .before .before .number-in3 .ensures))
+
+cast-time : tie.Need-cast-time
+cast-time c = search needs
+
+returns-5 : tie.Need-returns-5
+unfolding stateIn _>>=_ _>>_ _orElse_
+returns-5 c =
+    let cs = c .before .before .before .before .before .before .before .before .before .before .before .before .before .before .before .before .before .args .cs .now in
+    let e = (sym (c .before .time .given .1) ∙ c .before .before .before .number-in3 .ensures) in
+    simp (is-number 10 3 _ _ (sym (c .before .before .before .before .before .before .before .before .before .before .before .before .reserved .given .1) ∙ c .before .before .before .before .before .before .before .before .before .before .before .before .before .before .number-in .ensures), eq-eqb _ _ (c .before .before .before .before .before .before .before .before .before .before .if1 .left), is-number 16 3 _ _ (sym (c .before .before .before .before .before .before .outputs .given .1) ∙ c .before .before .before .before .before .before .before .before .number-in2 .ensures), is-number 10 3 _ _ e, time-fits 11 _ cs (search needs) e)
+
+pub state-in-spec : {M : Type 1} → statement M
+state-in-spec =
+    tie.close
+    (tie.spec
+    sub-number-in
+    part-number-in-start
+    part-number-in-end
+    number-in-requires
+    enum-known-reserved
+    enum-told
+    returns
+    returns-2
+    sub-number-in-2
+    part-number-in-start-2
+    part-number-in-end-2
+    number-in-requires-2
+    enum-known-outputs
+    enum-told-2
+    returns-3
+    sub-number-in-3
+    part-number-in-start-3
+    part-number-in-end-3
+    number-in-requires-3
+    enum-known-time
+    enum-told-3
+    returns-4
+    cast-time
+    returns-5)
