@@ -20,6 +20,7 @@ use Rattle.lines.specs.Line.{readLine, bytesOf}
 use Rattle.lines.specs.Program.{lineAt}
 use Rattle.lines.proofs.Lines.{Fits, bytes-back}
 use Rattle.lines.proofs.Places.{put-same, put-other}
+use Rattle.variables.specs.Variables as Variables
 use Rattle.special.specs.declared.Special.{Special}
 use Rattle.special.specs.declared.Special.the-variants.{Stop, Pause, Start, Continue, StartAt, Execute, Load, Save}
 use Rattle.wire.specs.declared.Data.{Data}
@@ -29,7 +30,7 @@ use Rattle.wire.specs.declared.Asked.the-variants.{Read, Write}
 use Rattle.special.specs.Special.{codeOf}
 use Rattle.wire.proofs.Commands.{DataSound, Sound, asked-sound}
 use Rattle.controller.specs.declared.Controller.{Controller}
-use Rattle.controller.specs.Controller.{withSpecial, withEvent, mode, Areas}
+use Rattle.controller.specs.Controller.{withSingle, withSpecial, withEvent, mode, Areas}
 use Rattle.controller.specs.Variables.{lineOf, value}
 use Rattle.controller.specs.Deeds.{Did, did, over, ended, raise, moved, startAt, stop, load, save, execute, special, write, readTo, wroteTo, writing, emptyCollection, asked, answer, ticked, pressed, emptyLog}
 use Rattle.controller.specs.Deeds as Deeds
@@ -64,11 +65,11 @@ abbrev pub lineIn : Did → ℕ → Line
 lineIn x k = lineOf (x .state) (x .areas .program) k
 
 at-200 : (c : Controller) (p : List ℕ) (k : ℕ) → eqb k 200 ≡ true → lineOf c p k ≡ readLine (c .panel .single)
-unfolding lineOf
+unfolding Variables.lineOf
 at-200 c p k e = rw e
 
 below-200 : (c : Controller) (p : List ℕ) (k : ℕ) → eqb k 200 ≡ false → lineOf c p k ≡ lineAt p k
-unfolding lineOf
+unfolding Variables.lineOf
 below-200 c p k e = rw e
 
 single-back : (l : Line) → Fits l → readLine (bytesOf l) ≡ l
@@ -81,7 +82,7 @@ unfolding write
 write-stores l k c a le len f = go (eqb k 200) refl
   where
     go : (t : Bool) → eqb k 200 ≡ t → lineIn (write k (WriteLine l) c a) k ≡ l
-    go true e = rw (e, write) (at-200 _ (a .program) k e ∙ single-back l f)
+    go true e = rw (e, write) (at-200 (withSingle (bytesOf l) c) (a .program) k e ∙ single-back l f)
     go false e =
         let ne : k ≢ 200 = eqb-false k 200 e in
         rw (e, write) (below-200 c _ k e ∙ put-same k l (a .program) (omega arith) f)
@@ -100,7 +101,7 @@ record SameLines (c : Controller) (a : Areas) (x : Did) : Type 0 where
   program : x .areas .program ≡ a .program
 
 same-line : (c : Controller) (a : Areas) (x : Did) (k : ℕ) → SameLines c a x → lineIn x k ≡ lineOf c (a .program) k
-unfolding lineOf
+unfolding Variables.lineOf
 same-line c a x k s = ap₂ (λ b p. if eqb k 200 then readLine b else lineAt p k) (s .single) (s .program)
 
 raise-single : (e : ℕ) (c : Controller) → raise e c .panel .single ≡ c .panel .single
@@ -146,7 +147,7 @@ write-elsewhere l j k c a le len ne = go (eqb j 200) (eqb k 200) refl refl
   where
     go : (t u : Bool) → eqb j 200 ≡ t → eqb k 200 ≡ u → lineIn (write j (WriteLine l) c a) k ≡ lineOf c (a .program) k
     go true true e f = absurd (ne (eqb-true k 200 f ∙ sym (eqb-true j 200 e)))
-    go true false e f = rw (e, write) (below-200 _ (a .program) k f ∙ sym (below-200 c (a .program) k f))
+    go true false e f = rw (e, write) (below-200 (withSingle (bytesOf l) c) (a .program) k f ∙ sym (below-200 c (a .program) k f))
     go false true e f = rw (e, write) (at-200 c _ k f ∙ sym (at-200 c (a .program) k f))
     go false false e f =
         let nj : j ≢ 200 = eqb-false j 200 e in
@@ -162,7 +163,7 @@ Keeps k r = (if writesLine k r then true else (leb k 199 && eqb (specialCode r) 
 
 write-keeps : (j : ℕ) (x : Data) (k : ℕ) (c : Controller) (a : Areas) → DataSound (mode c) (c .panel .parameter) j x → length (a .program) ≡ 1600 → k ≤ 200
     → Keeps k (passed (Write j x)) → lineIn (write j x c a) k ≡ lineOf c (a .program) k
-unfolding write lineOf
+unfolding write Variables.lineOf
 write-keeps j (WriteLine l) k c a i len le n = write-elsewhere l j k c a i len (eqb-false k j (neither (eqb k j) _ n .0))
 write-keeps j (WriteOutputs x) k c a i len le n = same-line c a (write j (WriteOutputs x) c a) k (record { single = refl; program = refl })
 write-keeps j (WriteParameter v) k c a i len le n = same-line c a (write j (WriteParameter v) c a) k (record { single = refl; program = refl })
@@ -174,14 +175,14 @@ read-single false c = refl
 
 answer-keeps : (r : Res Asked) (k : ℕ) (c : Controller) (a : Areas) → Ok (Sound (mode c) (c .panel .parameter)) r → length (a .program) ≡ 1600 → k ≤ 200
     → Keeps k r → lineIn (answer r c a) k ≡ lineOf c (a .program) k
-unfolding answer writing lineOf
+unfolding answer writing Variables.lineOf
 answer-keeps (refused e) k c a i len le n = refl
 answer-keeps (passed (Read j)) k c a i len le n = same-line c a (answer (passed (Read j)) c a) k (record { single = read-single (eqb j 212) (readTo j (emptyCollection c)); program = refl })
 answer-keeps (passed (Write j x)) k c a i len le n = write-keeps j x k (wroteTo j (emptyCollection c)) a (i .1) len le n
 
 byte-keeps : (x k : ℕ) (c : Controller) (a : Areas) → Invariant c → length (a .program) ≡ 1600 → k ≤ 200 → Keeps k (finished (byte x) c)
     → lineIn (Deeds.byte x c a) k ≡ lineOf c (a .program) k
-unfolding Deeds.byte lineOf finished
+unfolding Deeds.byte Variables.lineOf finished
 byte-keeps x k c a i len le n = go (eqb x 13) refl
   where
     go : (t : Bool) → eqb x 13 ≡ t → lineIn (Deeds.byte x c a) k ≡ lineOf c (a .program) k

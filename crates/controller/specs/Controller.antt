@@ -6,12 +6,12 @@ use lib.ListN.{replicate}
 use Rattle.lines.specs.Line.{endMark, bytesOf}
 use Rattle.running.specs.declared.Run.{Run}
 use Rattle.running.specs.Running.{allFree}
+use Rattle.variables.specs.declared.Panel.{Panel}
 use Rattle.log.specs.declared.Log.{Log}
 use Rattle.log.specs.Log.{emptied}
 use Rattle.wire.specs.declared.Wire.{Wire}
 use Rattle.special.specs.declared.Mode.{Mode}
 use Rattle.special.specs.Special.{modeOf}
-use Rattle.controller.specs.declared.Panel.{Panel}
 use Rattle.controller.specs.declared.Controller.{Controller}
 
 -- ---- one part of the state altered

@@ -12,6 +12,7 @@ use Rattle.lines.specs.Line.{bytesOf}
 use Rattle.lines.specs.Program.{putLine, cleaned}
 use Rattle.running.specs.declared.Ran.{Ran}
 use Rattle.running.specs.Running.{withOutputs, stopped, start, tick}
+use Rattle.variables.specs.Variables.{withOutputByte}
 use Rattle.log.specs.Log.{records, emptied}
 use Rattle.special.specs.declared.Special.{Special}
 use Rattle.special.specs.declared.Special.the-variants.{Stop, Pause, Start, Continue, StartAt, Execute, Load, Save}
@@ -24,7 +25,7 @@ use Rattle.special.specs.Special.{codeOf}
 use Rattle.wire.specs.Command.{command}
 use Rattle.controller.specs.declared.Controller.{Controller}
 use Rattle.controller.specs.Controller.{withRun, withPaused, withTicks, withWire, withLog, withSingle, withParameter, withSpecial, withEvent, mode, Areas, withProgram, withSaved, withOut, fresh}
-use Rattle.controller.specs.Variables.{lineOf, withOutputByte, value}
+use Rattle.controller.specs.Variables.{lineOf, value}
 
 -- What was done: the state and the areas after it, the For and Next lines run, and the bytes written to the start of the reply or
 -- the destination.

@@ -2,20 +2,8 @@
 // So far the types and, in specs/, the definitions.
 use log::Log;
 use running::Run;
+use variables::Panel;
 use wire::Wire;
-
-// The variables that stand beside the program, the run and the wire.
-pub struct Panel {
-    // 200, the single command, in the eight bytes of a line
-    pub single: [u8; 8],
-    // 209
-    pub parameter: u8,
-    // 210, the last accepted special command
-    pub special: u8,
-    // 212, and D7 of 201
-    pub event: u8,
-    pub unread: bool,
-}
 
 pub struct Controller {
     pub run: Run,

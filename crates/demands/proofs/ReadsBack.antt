@@ -14,6 +14,7 @@ use Rattle.formats.proofs.Checks.{both-true, ok-at}
 use Rattle.lines.specs.declared.Line.{Line}
 use Rattle.texts.specs.Text.{lineText}
 use Rattle.texts.proofs.Texts.{Sent}
+use Rattle.variables.specs.Variables as Variables
 use Rattle.wire.specs.declared.Asked.{Asked}
 use Rattle.wire.specs.declared.Asked.the-variants.{Write}
 use Rattle.wire.specs.declared.Data.the-variants.{WriteLine}
@@ -21,7 +22,7 @@ use Rattle.wire.specs.Naming.{Names}
 use Rattle.wire.proofs.Commands.{read-asked, WritesLine, write-asked}
 use Rattle.controller.specs.declared.Controller.{Controller}
 use Rattle.controller.specs.Controller.{mode, Areas}
-use Rattle.controller.specs.Variables.{lineOf, value}
+use Rattle.controller.specs.Variables.{lineOf}
 use Rattle.controller.specs.Deeds.{ended, asked, answer}
 use Rattle.controller.specs.Deeds as Deeds
 use Rattle.controller.specs.Refusals.{Call, powerOn, byte, tick, press, emptying, isProgram}
@@ -59,7 +60,7 @@ lineAtAddress h k = lineOf (h .state) (h .program) k
 
 -- an accepted call that is lent the program leaves the line that it left in what it did
 accepted-line : (h : Held) (m : Made) (k : ℕ) → isLentProgram (m .call) ≡ true → next h m ≡ doneHeld h m → lineAtAddress (next h m) k ≡ lineIn (doing h m) k
-unfolding lineOf
+unfolding Variables.lineOf
 accepted-line h m k lent f = ap (λ (g : Held). lineAtAddress g k) f ∙ rw lent
 
 module _ (h : Held) (a : Areas) (k : ℕ) (address line : List ℕ) (inside : k ≤ 200) (wrote : Arrives h a (text "CW" ++ (address ++ line)))
@@ -106,7 +107,7 @@ module _ (k : ℕ) (h : Held) (a : Areas) (inside : k ≤ 200) (i : Invariant (h
       ∙ ap (λ p. lineOf (h .state) p k) (hands .program other lent ok)
 
   emptying-keeps : let m : Made = record { call = emptying; areas = a } in next h m ≡ doneHeld h m → lineAtAddress (next h m) k ≡ lineAtAddress h k
-  unfolding does Deeds.emptyLog Deeds.writing lineOf
+  unfolding does Deeds.emptyLog Deeds.writing Variables.lineOf
   emptying-keeps f = ap (λ (g : Held). lineAtAddress g k) f
 
   accepted-keeps : (n : Call) → let m : Made = record { call = n; areas = a } in
@@ -141,7 +142,7 @@ lines-kept k (m ∷ ms) h inside i hands u =
 
 read-line : (h : Held) (a : Areas) (k : ℕ) (address : List ℕ) → k ≤ 200 → Arrives h a (text "CR" ++ address) → Names (h .state .wire .nextread) k address
     → HandsOn h (ending a) → reply h (ending a) ≡ ended (lineText (lineAtAddress h k))
-unfolding value
+unfolding Variables.value
 read-line h a k address inside read named hands =
     reply-is h a (read .accepted)
     ∙ ap (λ r. replyOf r (h .state) a) (read-asked (h .state .wire) (mode (h .state)) (h .state .panel .parameter) (read .short) k address (omega arith) (read .collected) named)

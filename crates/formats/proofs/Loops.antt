@@ -20,7 +20,7 @@ use Rattle.formats.proofs.Checks.{both-true, all-snoc}
 use Rattle.formats.proofs.Digits.{isBelow, number-snoc, number-below}
 use Rattle.formats.proofs.Characters.{all-values}
 
-map-snoc : (f : ℕ → ℕ) (xs : List ℕ) (x : ℕ) → map f (xs ++ (x ∷ [])) ≡ map f xs ++ (f x ∷ [])
+pub map-snoc : (f : ℕ → ℕ) (xs : List ℕ) (x : ℕ) → map f (xs ++ (x ∷ [])) ≡ map f xs ++ (f x ∷ [])
 map-snoc f [] x = refl
 map-snoc f (y ∷ xs) x = ap (λ l. f y ∷ l) (map-snoc f xs x)
 

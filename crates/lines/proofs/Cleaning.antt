@@ -37,7 +37,7 @@ cleaning-goes-on i p to =
     let l : length done ≡ 8 * i = length-cleaned i p in
     let f : 8 * i + 8 ≡ 8 * (i + 1) = omega arith in
     let d : drop (8 * i + 8) (done ++ rest) ≡ drop (8 * (i + 1)) to =
-        ap (λ n. drop (n + 8) (done ++ rest)) (sym l) ∙ drop-append-add done rest 8 ∙ drop-drop 8 (8 * i) to ∙ ap (λ n. drop n to) f in
+    ap (λ n. drop (n + 8) (done ++ rest)) (sym l) ∙ drop-append-add done rest 8 ∙ drop-drop 8 (8 * i) to ∙ ap (λ n. drop n to) f in
     rw (take-at done rest (8 * i) l, d, add-one i, cleaned-more i p) (sym (append-assoc done (bytesOf (lineAt p i)) _))
 
 pub cleaning-ends : (i : ℕ) (p to : List ℕ) → i ≡ 200 → length to ≡ 1600 → cleanedTo i p to ≡ cleaned p

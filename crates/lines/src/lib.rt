@@ -47,46 +47,66 @@ fn state_line(second: u8, outputs: u32, time: u16) -> Line
     ensures line { λ r. ⌜ r ≡ (if eqb second 0 && leb time 9999 then State outputs time else endMark) ⌝ }
 {
     if second != 0 {
-        return Line::State { outputs: 0, time: 0 };
+        return Line::State {
+            outputs: 0,
+            time: 0,
+        };
     }
     if 9999 < time {
-        return Line::State { outputs: 0, time: 0 };
+        return Line::State {
+            outputs: 0,
+            time: 0,
+        };
     }
     Line::State { outputs, time }
 }
 
 // The line of eight bytes that begin with 46, by the counter, the count and the number in the last four bytes.
 fn for_line(counter: u8, count: u16, rest: u32) -> Line
-    ensures line {
-        λ r. ⌜ r ≡ (if isCounter counter && leb count 9999 && eqb rest 0 then For counter count else endMark) ⌝
-    }
+    ensures line { λ r. ⌜ r ≡ (if isCounter counter && leb count 9999 && eqb rest 0 then For counter count else endMark) ⌝ }
 {
     if !is_counter(counter) {
-        return Line::State { outputs: 0, time: 0 };
+        return Line::State {
+            outputs: 0,
+            time: 0,
+        };
     }
     if 9999 < count {
-        return Line::State { outputs: 0, time: 0 };
+        return Line::State {
+            outputs: 0,
+            time: 0,
+        };
     }
     if rest != 0 {
-        return Line::State { outputs: 0, time: 0 };
+        return Line::State {
+            outputs: 0,
+            time: 0,
+        };
     }
     Line::For { counter, count }
 }
 
 // The line of eight bytes that begin with 4E, by the counter and the numbers in the two bytes and the four after it.
 fn next_line(counter: u8, high: u16, low: u32) -> Line
-    ensures line {
-        λ r. ⌜ r ≡ (if isCounter counter && eqb (high * 4294967296 + low) 0 then Next counter else endMark) ⌝
-    }
+    ensures line { λ r. ⌜ r ≡ (if isCounter counter && eqb (high * 4294967296 + low) 0 then Next counter else endMark) ⌝ }
 {
     if !is_counter(counter) {
-        return Line::State { outputs: 0, time: 0 };
+        return Line::State {
+            outputs: 0,
+            time: 0,
+        };
     }
     if high != 0 {
-        return Line::State { outputs: 0, time: 0 };
+        return Line::State {
+            outputs: 0,
+            time: 0,
+        };
     }
     if low != 0 {
-        return Line::State { outputs: 0, time: 0 };
+        return Line::State {
+            outputs: 0,
+            time: 0,
+        };
     }
     Line::Next { counter }
 }
@@ -115,7 +135,10 @@ pub fn read_line(b: &[u8]) -> Line
     if first == 0x4E {
         return next_line(second, high, low);
     }
-    Line::State { outputs: 0, time: 0 }
+    Line::State {
+        outputs: 0,
+        time: 0,
+    }
 }
 
 // Line k of a program.

@@ -18,13 +18,9 @@ use Rattle.running.specs.declared.How.the-variants.{Holds, Ends, GoesOn}
 use Rattle.running.specs.declared.Step.{Step}
 use Rattle.running.specs.declared.Ran.{Ran}
 use Rattle.running.specs.Running.{allFree, counter, isBusy, isFree, stopped, holds, ends, onward, runLine, isForOrNext, counted, stops, isHeld, follow, step, runDue, most, start, tick}
+use Rattle.running.proofs.Turns.{counted-one}
 
 -- ---- at most 400 lines
-
-counted-one : (l : Line) → counted l ≤ 1
-counted-one (State o t) = omega arith
-counted-one (For c n) = omega arith
-counted-one (Next c) = omega arith
 
 follow-lines : (b : ℕ) (h : How) (n : ℕ) (r : Run) (go : Run → Ran) → n ≤ b → ((s : Run) → go s .lines ≤ b) → follow h n r go .lines ≤ b
 follow-lines b Holds n r go le k = le

@@ -42,26 +42,30 @@ each-set P (x ∷ l) zero v h g (suc i) = g (suc i)
 each-set P (x ∷ l) (suc c) v h g zero = g zero
 each-set P (x ∷ l) (suc c) v h g (suc i) = each-set P l c v h (λ j. g (suc j)) i
 
-abbrev LineOk : Counter → Type 0
+abbrev pub LineOk : Counter → Type 0
 LineOk c = c .line < 199
 
-abbrev CountOk : Counter → Type 0
+abbrev pub CountOk : Counter → Type 0
 CountOk c = c .count ≤ 9999
 
 -- ---- a run that goes on
 
-record Going (r : Run) : Type 0 where
-  on : r .on ≡ true
-  inProgram : r .line < 200
-  forLine : (i : ℕ) → LineOk (getD (r .counters) i free)
-  count : (i : ℕ) → CountOk (getD (r .counters) i free)
-  time : r .wait ≤ 9999
+pub record Going (r : Run) : Type 0 where
+  pub on : r .on ≡ true
+  pub inProgram : r .line < 200
+  pub forLine : (i : ℕ) → LineOk (getD (r .counters) i free)
+  pub count : (i : ℕ) → CountOk (getD (r .counters) i free)
+  pub time : r .wait ≤ 9999
 
-record GoingStep (s : Step) : Type 0 where
-  going : Going (s .run)
+pub record GoingStep (s : Step) : Type 0 where
+  pub going : Going (s .run)
 
-still : {r : Run} → Going r → RunInvariant r
+pub still : {r : Run} → Going r → RunInvariant r
 still g = record { lineInProgram = g .inProgram; forLine = g .forLine; count = g .count; time = g .time; idle = λ e. absurd (true≢false (sym (g .on) ∙ e)) }
+
+-- a run that is on and has the invariant goes on
+pub goes-on : (r : Run) → r .on ≡ true → RunInvariant r → Going r
+goes-on r on i = record { on = on; inProgram = i .lineInProgram; forLine = i .forLine; count = i .count; time = i .time }
 
 -- a stop frees the loops and keeps the line
 pub stopped-kept : (r : Run) → r .line < 200 → RunInvariant (stopped r)
@@ -83,7 +87,7 @@ ends-going e r g = record { going = g }
 goes-going : (k : ℕ) (r : Run) → k < 200 → Going r → GoingStep (goesTo k r)
 goes-going k r lt g = record { going = record { on = g .on; inProgram = lt; forLine = g .forLine; count = g .count; time = g .time } }
 
-onward-going : (r : Run) → Going r → GoingStep (onward r)
+pub onward-going : (r : Run) → Going r → GoingStep (onward r)
 unfolding onward
 onward-going r g =
     if-case GoingStep (ltb (r .line) 199) (λ e. goes-going (r .line + 1) r (omega (arith, ltb-true (r .line) 199 e)) g) (λ _. ends-going 9 r g)
@@ -125,7 +129,7 @@ line-going p (Next c) r q g =
     (λ _. goes-going _ _ (omega arith) (counter-going c _ r l (omega arith) g))
     (λ _. onward-going _ (counter-going c free r (omega arith) (omega arith) g))
 
-step-going : (p : List ℕ) (r : Run) → Going r → GoingStep (step p r)
+pub step-going : (p : List ℕ) (r : Run) → Going r → GoingStep (step p r)
 unfolding step
 step-going p r g = line-going p (lineAt p (r .line)) r (line-ranged p (r .line)) g
 
@@ -145,18 +149,26 @@ due-kept p zero n r g =
 due-kept p (suc left) n r g =
     follow-kept (step p r .how) _ (step p r .run) _ (step-going p r g .going) (λ s k. due-kept p left _ s k)
 
+-- the run that a start begins with
+abbrev pub started : ℕ → ℕ → Run
+started k o = record { on = true; line = k; outputs = o; wait = 0; counters = allFree }
+
+pub started-going : (k o : ℕ) → k < 200 → Going (started k o)
+started-going k o lt =
+    record { on = refl; inProgram = lt; forLine = each-free LineOk (omega arith); count = each-free CountOk (omega arith); time = omega arith }
+
 -- A start at a line of the program gives the invariant.
 pub start-kept : (p : List ℕ) (k o : ℕ) → k < 200 → RunInvariant (start p k o .run)
 unfolding start
 start-kept p k o lt =
-    due-kept p most 0 _ (record { on = refl; inProgram = lt; forLine = each-free LineOk (omega arith); count = each-free CountOk (omega arith); time = omega arith })
+    due-kept p most 0 (started k o) (started-going k o lt)
 
 -- A tick keeps it.
 pub tick-kept : (p : List ℕ) (r : Run) → RunInvariant r → RunInvariant (tick p r .run)
 unfolding tick
 tick-kept p r i =
     if-case (λ (x : Ran). RunInvariant (x .run)) (not (r .on)) (λ _. i) λ e.
-    let g : Going r = record { on = not-false (r .on) e; inProgram = i .lineInProgram; forLine = i .forLine; count = i .count; time = i .time } in
+    let g : Going r = goes-on r (not-false (r .on) e) i in
     if-case (λ (x : Ran). RunInvariant (x .run)) (isHeld r)
     (λ _. still (record { on = g .on; inProgram = g .inProgram; forLine = g .forLine; count = g .count; time = omega (arith, g .time) }))
     (λ _. follow-kept (onward r .how) 0 (onward r .run) _ (onward-going r g .going) (λ s k. due-kept p most 0 s k))

@@ -1,4 +1,5 @@
 pub mod Invariant
-pub mod Ending
 pub mod Waiting
+pub mod Turns
+pub mod Ending
 pub mod Examples

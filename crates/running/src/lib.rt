@@ -1,5 +1,16 @@
 // The part of the box that a running program moves, and what a start and a tick do to it.
-// So far the types and, in specs/, the definitions.
+// A run is passed by value. A call that runs no line reads nothing of the program.
+ghost use mathlib.Core.Path.{_≡_};
+ghost use mathlib.Core.Bool.{true};
+ghost use mathlib.Core.List.{[]};
+ghost use Prim.Native.Nat.{_≤_, _<_};
+ghost use lib.ListN.{length};
+ghost use Rattle.lines.specs.declared.Line.the-variants.{State, For, Next};
+ghost use Rattle.lines.specs.Line.{isCounter};
+ghost use Rattle.lines.specs.Program.{lineAt};
+ghost use Rattle.running.specs.Running.{stopped, onward, runLine, isForOrNext, counted, step, runDue, start, tick};
+ghost use Rattle.running.specs.Invariant.{RunInvariant};
+use lines::Line;
 
 // A loop counter: 0 when free, and the line of the For that holds it.
 pub struct Counter {
@@ -39,4 +50,297 @@ pub struct Ran {
     pub run: Run,
     pub event: u8,
     pub lines: u16,
+}
+
+// ---- one line
+
+// A line that a call counts.
+fn is_for_or_next(line: Line) -> bool
+    ensures test { λ r. ⌜ r ≡ isForOrNext line ⌝ }
+{
+    match line {
+        Line::State {
+            outputs: _,
+            time: _,
+        } => false,
+        Line::For {
+            counter: _,
+            count: _,
+        } => true,
+        Line::Next { counter: _ } => true,
+    }
+}
+
+// 1 for a line that a call counts, 0 for a State line.
+fn counted(line: Line) -> u16
+    ensures number { λ r. ⌜ r ≡ counted line ⌝ }
+{
+    if is_for_or_next(line) {
+        return 1;
+    }
+    0
+}
+
+impl Run {
+    // The loops are freed, and outputs and line stay.
+    pub fn stopped(self) -> Run
+        ensures run { λ r. ⌜ r ≡ stopped self ⌝ }
+    {
+        Run {
+            on: false,
+            line: self.line,
+            outputs: self.outputs,
+            wait: 0,
+            counters: [Counter { count: 0, line: 0 }; 4],
+        }
+    }
+
+    // To the next line; on line 199 the program ends with event 009.
+    pub fn onward(mut self) -> Step
+        ensures step { λ r. ⌜ r ≡ onward self ⌝ }
+    {
+        let line = self.line;
+        if line < 199 {
+            self.line = line + 1;
+            return Step {
+                run: self,
+                how: How::GoesOn,
+            };
+        }
+        Step {
+            run: self,
+            how: How::Ends(9),
+        }
+    }
+
+    // A State line sets the outputs. It is held, or, with time 0, the program ends with event 011.
+    fn run_state(mut self, outputs: u32, time: u16) -> Step
+        ensures step { λ r. ⌜ r ≡ runLine [] (State outputs time) self ⌝ }
+    {
+        self.outputs = outputs;
+        if time == 0 {
+            return Step {
+                run: self,
+                how: How::Ends(11),
+            };
+        }
+        self.wait = time;
+        Step {
+            run: self,
+            how: How::Holds,
+        }
+    }
+
+    // A For line takes its counter and goes on; with a busy counter event 006, with no later Next of it event 007.
+    fn run_for(mut self, p: &[u8], counter: u8, count: u16) -> Step
+        requires { ⌜ (length (now p) ≡ 1600) × (self .line < 200) × (isCounter counter ≡ true) ⌝ }
+        ensures step { λ r. ⌜ r ≡ runLine (now (p .entry)) (For counter count) self ⌝ }
+    {
+        let c = (counter - 1) as usize;
+        let held = self.counters[c];
+        let busy = held.count;
+        if 0 < busy {
+            return Step {
+                run: self,
+                how: How::Ends(6),
+            };
+        }
+        let line = self.line;
+        let next = lines::next_after(p, counter, line);
+        if next == 200 {
+            return Step {
+                run: self,
+                how: How::Ends(7),
+            };
+        }
+        if count == 0 {
+            self.counters[c] = Counter { count: 1, line };
+            return self.onward();
+        }
+        self.counters[c] = Counter { count, line };
+        self.onward()
+    }
+
+    // A Next line takes one off its counter: above zero to the line after the For, at zero on; with a free counter event 008.
+    fn run_next(mut self, counter: u8) -> Step
+        requires { ⌜ (RunInvariant self) × (isCounter counter ≡ true) ⌝ }
+        ensures step { λ r. ⌜ r ≡ runLine [] (Next counter) self ⌝ }
+    {
+        let c = (counter - 1) as usize;
+        let held = self.counters[c];
+        let busy = held.count;
+        let from = held.line;
+        if busy == 0 {
+            return Step {
+                run: self,
+                how: How::Ends(8),
+            };
+        }
+        let left = busy - 1;
+        if 0 < left {
+            self.counters[c] = Counter {
+                count: left,
+                line: from,
+            };
+            self.line = from + 1;
+            return Step {
+                run: self,
+                how: How::GoesOn,
+            };
+        }
+        self.counters[c] = Counter { count: 0, line: 0 };
+        self.onward()
+    }
+
+    // The line that is due, which was read already.
+    fn run_line(self, p: &[u8], line: Line) -> Step
+        requires { ⌜ (length (now p) ≡ 1600) × (RunInvariant self) × (line ≡ lineAt (now p) (self .line)) ⌝ }
+        ensures step { λ r. ⌜ r ≡ step (now (p .entry)) self ⌝ }
+    {
+        match line {
+            Line::State { outputs, time } => self.run_state(outputs, time),
+            Line::For { counter, count } => self.run_for(p, counter, count),
+            Line::Next { counter } => self.run_next(counter),
+        }
+    }
+
+    // The line that is due.
+    pub fn step(self, p: &[u8]) -> Step
+        requires { ⌜ (length (now p) ≡ 1600) × (RunInvariant self) ⌝ }
+        ensures step { λ r. ⌜ r ≡ step (now (p .entry)) self ⌝ }
+    {
+        let k = self.line;
+        let line = lines::line_at(p, k as usize);
+        self.run_line(p, line)
+    }
+
+    // ---- the lines of one call
+
+    // What is due when n lines were run and no more may be: a State line is run; for any other the program stops with event 013.
+    fn last_due(self, p: &[u8], n: u16) -> Ran
+        requires { ⌜ (length (now p) ≡ 1600) × (RunInvariant self) ⌝ }
+        ensures ran { λ r. ⌜ r ≡ runDue (now (p .entry)) 0 n self ⌝ }
+    {
+        let k = self.line;
+        let line = lines::line_at(p, k as usize);
+        if is_for_or_next(line) {
+            return Ran {
+                run: self.stopped(),
+                event: 13,
+                lines: n,
+            };
+        }
+        let s = self.run_line(p, line);
+        let run = s.run;
+        let how = s.how;
+        match how {
+            How::Holds => Ran {
+                run,
+                event: 0,
+                lines: n,
+            },
+            How::Ends(event) => Ran {
+                run: run.stopped(),
+                event,
+                lines: n,
+            },
+            How::GoesOn => Ran {
+                run,
+                event: 0,
+                lines: n,
+            },
+        }
+    }
+
+    // Lines are run until one is held or ends the program, at most 400 of them For or Next.
+    fn run_due(self, p: &[u8]) -> Ran
+        requires { ⌜ (length (now p) ≡ 1600) × (self .on ≡ true) × (RunInvariant self) ⌝ }
+        ensures ran { λ r. ⌜ r ≡ runDue (now (p .entry)) 400 0 self ⌝ }
+    {
+        let mut run = self;
+        let mut n: u16 = 0;
+        while n < 400 {
+            let k = run.line;
+            let line = lines::line_at(p, k as usize);
+            let m = n + counted(line);
+            let s = run.run_line(p, line);
+            let how = s.how;
+            run = s.run;
+            match how {
+                How::Holds => {
+                    return Ran {
+                        run,
+                        event: 0,
+                        lines: m,
+                    };
+                }
+                How::Ends(event) => {
+                    return Ran {
+                        run: run.stopped(),
+                        event,
+                        lines: m,
+                    };
+                }
+                How::GoesOn => {
+                    n = m;
+                }
+            }
+        }
+        run.last_due(p, n)
+    }
+
+    // One tick taken unpaused: a State line is held on, or the program goes on to the line after it.
+    pub fn tick(mut self, p: &[u8]) -> Ran
+        requires { ⌜ (length (now p) ≡ 1600) × (RunInvariant self) ⌝ }
+        ensures ran { λ r. ⌜ r ≡ tick (now (p .entry)) self ⌝ }
+    {
+        let on = self.on;
+        if !on {
+            return Ran {
+                run: self,
+                event: 0,
+                lines: 0,
+            };
+        }
+        let wait = self.wait;
+        if 1 < wait {
+            self.wait = wait - 1;
+            return Ran {
+                run: self,
+                event: 0,
+                lines: 0,
+            };
+        }
+        let s = self.onward();
+        let run = s.run;
+        let how = s.how;
+        match how {
+            How::Holds => Ran {
+                run,
+                event: 0,
+                lines: 0,
+            },
+            How::Ends(event) => Ran {
+                run: run.stopped(),
+                event,
+                lines: 0,
+            },
+            How::GoesOn => run.run_due(p),
+        }
+    }
+}
+
+// A start at line k with the outputs as they stand; all loops are free.
+pub fn start(p: &[u8], k: u8, outputs: u32) -> Ran
+    requires { ⌜ (length (now p) ≡ 1600) × (k < 200) ⌝ }
+    ensures ran { λ r. ⌜ r ≡ start (now (p .entry)) k outputs ⌝ }
+{
+    let run = Run {
+        on: true,
+        line: k,
+        outputs,
+        wait: 0,
+        counters: [Counter { count: 0, line: 0 }; 4],
+    };
+    run.run_due(p)
 }

@@ -18,6 +18,9 @@ use Rattle.formats.specs.Values.{numberOf}
 use Rattle.formats.proofs.Checks.{both-true, Ok, ok-at, ok-passed, ok-guard}
 use Rattle.formats.proofs.Answers.{number-fits}
 use Rattle.lines.specs.Line.{isCounter, part}
+use Rattle.lines.specs.declared.Line.{Line}
+use Rattle.texts.specs.declared.Parsed as P
+use Rattle.texts.specs.Values.{parsedOf}
 use Rattle.texts.specs.Text.{counterIn}
 use Rattle.texts.proofs.Texts.{part-length}
 
@@ -62,3 +65,12 @@ counter-fits cs v h =
 -- there are characters where there are not none
 pub some-length : (n : ℕ) → (n ≡ 0 → ⊥) → 0 < n
 some-length n ne = let h : n ≢ 0 = ne in omega arith
+
+-- what was answered says what was read
+pub parsed-passed : (x : Res Line) {v : Line} → P.the-variants.Is v ≡ parsedOf x → x ≡ passed v
+parsed-passed (refused e) {v} h = absurd (let z : _≡_ {A = ℕ} 0 1 = cc in omega arith)
+parsed-passed (passed w) {v} h = ap passed (cc)
+
+pub parsed-refused : (x : Res Line) {e : ℕ} → P.the-variants.Error e ≡ parsedOf x → x ≡ refused e
+parsed-refused (refused d) {e} h = ap refused (cc)
+parsed-refused (passed w) {e} h = absurd (let z : _≡_ {A = ℕ} 0 1 = cc in omega arith)

@@ -1,20 +1,20 @@
 -- Laws of addresses: a named address is found, and none lies outside 000-216.
 -- Assumes nothing.
-use mathlib.Core.Path.{_≡_, refl, ap}
-use Prim.Native.Nat.{ℕ, suc, _/_, _%_, _≤_, _<_}
+use mathlib.Core.Path.{_≡_, refl, sym, ap, _∙_}
+use Prim.Native.Nat.{ℕ, suc, _-_, _/_, _%_, _≤_, _<_}
 use Prim.Native.Char.{code}
 use native.Mathlib.Omega.{arith}
-use mathlib.Core.Bool.{true, false, not, _&&_, _||_}
+use mathlib.Core.Bool.{Bool, true, false, not, _&&_, _||_}
 use mathlib.Core.List.{List, _∷_, _++_}
-use lib.ListN.{length}
+use lib.ListN.{length, drop, length-drop}
 use lib.Dec.{eqb, leb}
-use borrow.Author.Tests.{le-leb, leb-true, not-true}
+use borrow.Author.Tests.{eq-eqb, ne-eqb, le-leb, leb-true, not-true}
 use Rattle.formats.specs.Checks.{passed, _>>=_, _>>_, _orElse_, text}
 use Rattle.formats.specs.Digits.{digits, digitChar, shown, numberIn}
 use Rattle.formats.proofs.Checks.{if-case, both-true, below, Ok, ok-passed, ok-guard}
 use Rattle.formats.proofs.Characters.{shown-back}
 use Rattle.lines.specs.Line.{part}
-use Rattle.wire.specs.Command.{char, isStepwise, rest, addressIn}
+use Rattle.wire.specs.Command.{char, isRead, isWrite, isStepwise, hasAddress, inFormat, rest, addressIn}
 use Rattle.wire.specs.Naming.{Names, byDigits, byI, byD}
 
 -- no digit is the letter I or D
@@ -64,3 +64,24 @@ address-inside next cs le =
     (λ _. ok-guard (λ k. k ≤ 216) (leb 2 next) 4 _ λ _. omega arith) λ _.
     ok-passed (λ k. k ≤ 216) (numberIn 10 4 (part 2 3 cs)) _ λ k _.
     ok-guard (λ k. k ≤ 216) (leb k 216) 4 _ λ e. leb-true k 216 e
+
+-- a command whose address is neither I nor D has five characters
+pub five-long : (cs : List ℕ) → (isStepwise cs || leb 5 (length cs)) ≡ true → (char cs 2 ≡ code "I" → ⊥) → (char cs 2 ≡ code "D" → ⊥) → 5 ≤ length cs
+five-long cs e i d =
+    let f : (eqb (char cs 2) (code "I") || eqb (char cs 2) (code "D") || leb 5 (length cs)) ≡ true = e in
+    leb-true 5 (length cs) (rw (ne-eqb _ _ i, ne-eqb _ _ d) at f)
+
+-- the same by the one test
+pub no-step-long : (cs : List ℕ) → hasAddress cs ≡ true → isStepwise cs ≡ false → 5 ≤ length cs
+no-step-long cs e s = leb-true 5 (length cs) (rw s at e)
+
+-- something stands behind the address, or nothing
+pub rest-some : (cs : List ℕ) (at : ℕ) → drop at cs ≡ rest cs → at < length cs → eqb (length (rest cs)) 0 ≡ false
+rest-some cs at e lt = ne-eqb _ _ (λ z. let n : length cs - at ≡ 0 = sym (length-drop at cs) ∙ ap length e ∙ z in omega arith)
+
+pub rest-none : (cs : List ℕ) (at : ℕ) → drop at cs ≡ rest cs → length cs ≤ at → eqb (length (rest cs)) 0 ≡ true
+rest-none cs at e le = eq-eqb (length (rest cs)) 0 (let n : length (rest cs) ≡ length cs - at = sym (ap length e) ∙ length-drop at cs in omega arith)
+
+-- a command in the format has room for an address
+pub format-address : (overlong : Bool) (cs : List ℕ) → inFormat overlong cs ≡ true → hasAddress cs ≡ true
+format-address overlong cs e = both-true (not overlong && eqb (char cs 0) (code "C") && (isRead cs || isWrite cs)) (hasAddress cs) e .1

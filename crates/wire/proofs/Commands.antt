@@ -24,7 +24,7 @@ use Rattle.wire.specs.declared.Asked.{Asked}
 use Rattle.wire.specs.declared.Asked.the-variants.{Read, Write}
 use Rattle.wire.specs.Collecting.{sent}
 use Rattle.special.specs.Special.{allowed, specialOf, inReach}
-use Rattle.wire.specs.Command.{isRead, rest, isWritable, isOpen, specialIn, dataIn, readCommand, writeCommand, command}
+use Rattle.wire.specs.Command.{isRead, rest, isWritable, isOpen, specialIn, dataIn, readCommand, writeCommand, commandIn, command}
 use Rattle.wire.specs.Naming.{Names}
 use Rattle.wire.specs.Invariant.{WireInvariant}
 use Rattle.wire.proofs.Addresses.{found, address-inside}
@@ -66,7 +66,7 @@ module _ (mode : Mode) (parameter : ℕ) where
 
   -- Every command that passes the checks is sound.
   pub asked-sound : (w : Wire) → WireInvariant w → Ok (Sound mode parameter) (command w mode parameter)
-  unfolding command readCommand writeCommand
+  unfolding command commandIn readCommand writeCommand
   asked-sound w i =
       let P = Sound mode parameter in
       ok-guard P _ 1 _ λ _. ok-guard P _ 2 _ λ _.
@@ -87,7 +87,7 @@ pub record WritesLine (k : ℕ) (written : List ℕ) (asked : Asked) : Type 0 wh
 module _ (w : Wire) (mode : Mode) (parameter : ℕ) (short : w .overlong ≡ false) (k : ℕ) (a : List ℕ) where
   -- A read asks for the address that it names, in any mode.
   pub read-asked : k ≤ 216 → sent w ≡ text "CR" ++ a → Names (w .nextread) k a → command w mode parameter ≡ passed (Read k)
-  unfolding command readCommand text _>>=_ _>>_ _orElse_
+  unfolding command commandIn readCommand text _>>=_ _>>_ _orElse_
   read-asked inside e n =
       let f = found 67 82 (w .nextread) k inside [] n in
       let e′ : sent w ≡ 67 ∷ 82 ∷ (a ++ []) = e ∙ ap (λ r. 67 ∷ 82 ∷ r) (sym (append-nil a)) in
@@ -96,7 +96,7 @@ module _ (w : Wire) (mode : Mode) (parameter : ℕ) (short : w .overlong ≡ fal
   module _ (written : List ℕ) (inside : k ≤ 200) (e : sent w ≡ text "CW" ++ (a ++ written)) (n : Names (w .nextwrite) k a) where
     -- What is left of the checks of a write to 000-200: the mode, and the line.
     line-checks : command w mode parameter ≡ ((isOpen mode k orElse 5) >> (lineIn written >>= (λ l. passed (WriteLine l)) >>= (λ x. passed (Write k x))))
-    unfolding command text writeCommand dataIn _>>=_ _>>_ _orElse_
+    unfolding command commandIn text writeCommand dataIn _>>=_ _>>_ _orElse_
     line-checks =
         let f = found 67 87 (w .nextwrite) k (omega arith) written n in
         rw (e, f .three, short, f .long, f .address, le-leb k 200 inside, f .behind)

@@ -22,7 +22,7 @@ use Rattle.wire.specs.declared.Asked.the-variants.{Read, Write}
 use Rattle.wire.specs.Collecting.{sent}
 use Rattle.special.specs.Special.{allowed, inReach, specialOf}
 use Rattle.special.proofs.Quiet.{quietSpecial, special-quiet}
-use Rattle.wire.specs.Command.{isRead, isWritable, isOpen, rest, addressIn, specialIn, dataIn, readCommand, writeCommand, command}
+use Rattle.wire.specs.Command.{isRead, isWritable, isOpen, rest, addressIn, specialIn, dataIn, readCommand, writeCommand, commandIn, command}
 
 abbrev pub quietData : Data → Bool
 quietData (WriteLine l) = false
@@ -64,7 +64,7 @@ module _ (mode : Mode) (parameter : ℕ) (runs : mode ≢ M.the-variants.Stop) w
 
   -- The sentence at the top.
   pub command-quiet : (w : Wire) → Ok (λ (q : Asked). quiet q ≡ true) (command w mode parameter)
-  unfolding command readCommand writeCommand
+  unfolding command commandIn readCommand writeCommand
   command-quiet w =
       ok-guard Quiet _ 1 _ λ _. ok-guard Quiet _ 2 _ λ _.
       if-case (Ok Quiet) (isRead (sent w))

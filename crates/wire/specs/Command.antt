@@ -100,11 +100,21 @@ writeCommand mode parameter next cs = do
   data′ ← dataIn mode parameter k (rest cs)
   passed (Write k data′)
 
--- "1. Fewer than three characters (four bytes with the 13): E001. 2. Overlong, first not C, second not R or W, or third not I
--- or D and fewer than five characters: E002."
+-- the third character is I or D, or there are five
+abbrev pub hasAddress : List ℕ → Bool
+hasAddress cs = isStepwise cs || leb 5 (length cs)
+
+-- "2. Overlong, first not C, second not R or W, or third not I or D and fewer than five characters: E002."
+abbrev pub inFormat : Bool → List ℕ → Bool
+inFormat overlong cs = not overlong && eqb (char cs 0) (code "C") && (isRead cs || isWrite cs) && hasAddress cs
+
+-- "1. Fewer than three characters (four bytes with the 13): E001."
+unfoldable pub commandIn : List ℕ → Wire → Mode → ℕ → Res Asked
+commandIn cs w mode parameter = do
+  leb 3 (length cs) orElse 1
+  inFormat (w .overlong) cs orElse 2
+  if isRead cs then readCommand (w .nextread) cs else writeCommand mode parameter (w .nextwrite) cs
+
+-- what the collected characters ask for
 unfoldable pub command : Wire → Mode → ℕ → Res Asked
-command w mode parameter =
-    let cs = sent w in do
-      leb 3 (length cs) orElse 1
-      (not (w .overlong) && eqb (char cs 0) (code "C") && (isRead cs || isWrite cs) && (isStepwise cs || leb 5 (length cs))) orElse 2
-      if isRead cs then readCommand (w .nextread) cs else writeCommand mode parameter (w .nextwrite) cs
+command w mode parameter = commandIn (sent w) w mode parameter

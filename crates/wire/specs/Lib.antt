@@ -1,4 +1,5 @@
 pub mod Collecting
 pub mod Command
+pub mod Values
 pub mod Naming
 pub mod Invariant

@@ -1,7 +1,23 @@
 // The wire: characters are collected, byte 13 ends a command, and the checks decide what it asks for.
-// So far the types and, in specs/, the definitions.
+// Definitions: specs/Collecting.antt, specs/Command.antt; specs/Values.antt for what the types of the answers stand for.
+ghost use mathlib.Core.Path.{_≡_};
+ghost use mathlib.Core.Bool.{true, _||_};
+ghost use mathlib.Core.List.{map};
+ghost use Prim.Native.Nat.{_+_, _≤_};
+ghost use lib.Dec.{eqb};
+ghost use lib.ListN.{length, take, drop};
+ghost use Rattle.formats.specs.Values.{byteOf};
+ghost use Rattle.wire.specs.Collecting.{collect, cleared, capital};
+ghost use Rattle.wire.specs.Command.{isStepwise, addressIn, isWritable, isOpen, rest, hasAddress, inFormat, specialIn, dataIn, readCommand, writeCommand, commandIn, command};
+ghost use Rattle.wire.specs.Invariant.{WireInvariant};
+ghost use Rattle.wire.specs.Values.{givenOf, heardOf};
+use formats::Byte;
+use formats::Number;
 use lines::Line;
+use special::Mode;
+use special::Named;
 use special::Special;
+use texts::Parsed;
 
 // What is collected, and where each direction stands.
 pub struct Wire {
@@ -28,4 +44,325 @@ pub enum Data {
 pub enum Asked {
     Read(u8),
     Write(u8, Data),
+}
+
+// What the data of a write are heard as: the data, or the number of the error.
+pub enum Given {
+    Is(Data),
+    Error(u8),
+}
+
+// What a finished command is heard as.
+pub enum Heard {
+    Is(Asked),
+    Error(u8),
+}
+
+impl Wire {
+    // A byte other than 13: 32 is dropped, a character is kept where there is room, and makes the command overlong where there is none.
+    pub fn collect(mut self, x: u8) -> Wire
+        requires { ⌜ self .len ≤ 32 ⌝ }
+        ensures collected { λ r. ⌜ r ≡ collect x self ⌝ }
+    {
+        if x == 32 {
+            return self;
+        }
+        let at = self.len;
+        if at < 32 {
+            self.chars[at] = x;
+            self.len = at + 1;
+            return self;
+        }
+        self.overlong = true;
+        self
+    }
+
+    // The collection is empty again; the last addresses stay.
+    pub fn cleared(mut self) -> Wire
+        ensures empty { λ r. ⌜ r ≡ cleared self ⌝ }
+    {
+        self.len = 0;
+        self.overlong = false;
+        self
+    }
+}
+
+// a-z count as A-Z.
+fn capital(c: u8) -> u8
+    ensures capital { λ r. ⌜ r ≡ capital c ⌝ }
+{
+    if c < b'a' {
+        return c;
+    }
+    if b'z' < c {
+        return c;
+    }
+    c - 32
+}
+
+// The second copy of the characters kept, in capitals.
+fn capitals(chars: [u8; 32], len: usize) -> [u8; 32]
+    requires { ⌜ len ≤ 32 ⌝ }
+    ensures capitals { λ r. ⌜ take len r ≡ map capital (take len chars) ⌝ }
+{
+    let mut copy = chars;
+    let mut i: usize = 0;
+    while i < len {
+        copy[i] = capital(chars[i]);
+        i += 1;
+    }
+    copy
+}
+
+// The address is I or D.
+fn is_stepwise(cs: &[u8]) -> bool
+    requires { ⌜ 3 ≤ length (now cs) ⌝ }
+    ensures stepwise { λ r. ⌜ r ≡ isStepwise (now (cs .entry)) ⌝ }
+{
+    let third = cs[2];
+    if third == b'I' {
+        return true;
+    }
+    third == b'D'
+}
+
+// Check 3, the address: three digits, I or D; E004 where it is none of 000-216.
+fn address_in(next: u8, cs: &[u8]) -> Byte
+    requires { ⌜ (3 ≤ length (now cs)) × (hasAddress (now cs) ≡ true) ⌝ }
+    ensures address { λ r. ⌜ r ≡ byteOf (addressIn next (now (cs .entry))) ⌝ }
+{
+    let third = cs[2];
+    if third == b'I' {
+        if 216 < next {
+            return Byte::Error(4);
+        }
+        return Byte::Is(next);
+    }
+    if third == b'D' {
+        if next < 2 {
+            return Byte::Error(4);
+        }
+        return Byte::Is(next - 2);
+    }
+    let Number::Is(k) = formats::number_in(&cs[2..5], 10) else {
+        return Byte::Error(4);
+    };
+    if 216 < k {
+        return Byte::Error(4);
+    }
+    Byte::Is(k as u8)
+}
+
+// Every address but 201, 202, 207, 208 and 211-216 can be written.
+fn is_writable(k: u8) -> bool
+    ensures writable { λ r. ⌜ r ≡ isWritable k ⌝ }
+{
+    if k <= 200 {
+        return true;
+    }
+    if k < 203 {
+        return false;
+    }
+    if k <= 206 {
+        return true;
+    }
+    if k == 209 {
+        return true;
+    }
+    k == 210
+}
+
+// The two addresses that can be written while running or paused.
+fn is_always_open(k: u8) -> bool
+    ensures either { λ r. ⌜ r ≡ (eqb k 209 || eqb k 210) ⌝ }
+{
+    if k == 209 {
+        return true;
+    }
+    k == 210
+}
+
+// Check 4: while running or paused only 209 and 210 can be written.
+fn is_open(mode: Mode, k: u8) -> bool
+    ensures open { λ r. ⌜ r ≡ isOpen mode k ⌝ }
+{
+    match mode {
+        Mode::Stop => true,
+        Mode::Pause => is_always_open(k),
+        Mode::Auto => is_always_open(k),
+    }
+}
+
+// Check 7: the special command that a code names; E003 where it names none, E005 where it is forbidden in the present state, E004
+// where the parameter is out of its reach.
+fn special_in(mode: Mode, parameter: u8, cs: &[u8]) -> Given
+    ensures special { λ r. ⌜ r ≡ givenOf (specialIn mode parameter (now (cs .entry))) ⌝ }
+{
+    let code = match formats::d_in(cs) {
+        Byte::Is(n) => n,
+        Byte::Error(e) => {
+            return Given::Error(e);
+        }
+    };
+    let s = match special::special_of(code) {
+        Named::Is(s) => s,
+        Named::Error(e) => {
+            return Given::Error(e);
+        }
+    };
+    if special::is_allowed(s, mode) {
+        if special::in_reach(s, parameter) {
+            return Given::Is(Data::WriteSpecial(s));
+        }
+        return Given::Error(4);
+    }
+    Given::Error(5)
+}
+
+// The data of a write, by its address: a line, outputs, the parameter or a special command.
+fn data_in(mode: Mode, parameter: u8, k: u8, cs: &[u8]) -> Given
+    ensures data { λ r. ⌜ r ≡ givenOf (dataIn mode parameter k (now (cs .entry))) ⌝ }
+{
+    if k <= 200 {
+        let l = match texts::line_in(cs) {
+            Parsed::Is(l) => l,
+            Parsed::Error(e) => {
+                return Given::Error(e);
+            }
+        };
+        return Given::Is(Data::WriteLine(l));
+    }
+    if k <= 206 {
+        let x = match formats::h_in(cs) {
+            Byte::Is(x) => x,
+            Byte::Error(e) => {
+                return Given::Error(e);
+            }
+        };
+        return Given::Is(Data::WriteOutputs(x));
+    }
+    if k == 209 {
+        let v = match formats::d_in(cs) {
+            Byte::Is(v) => v,
+            Byte::Error(e) => {
+                return Given::Error(e);
+            }
+        };
+        return Given::Is(Data::WriteParameter(v));
+    }
+    special_in(mode, parameter, cs)
+}
+
+// Where the rest of a command begins, behind its address.
+fn rest_at(cs: &[u8]) -> usize
+    requires { ⌜ (3 ≤ length (now cs)) × (hasAddress (now cs) ≡ true) ⌝ }
+    ensures rest { λ r. ⌜ (r ≤ length (now (cs .entry))) × (drop r (now (cs .entry)) ≡ rest (now (cs .entry))) ⌝ }
+{
+    if is_stepwise(cs) {
+        return 3;
+    }
+    5
+}
+
+// A read: the address, and nothing behind it.
+fn read_command(next: u8, cs: &[u8]) -> Heard
+    requires { ⌜ (3 ≤ length (now cs)) × (hasAddress (now cs) ≡ true) ⌝ }
+    ensures read { λ r. ⌜ r ≡ heardOf (readCommand next (now (cs .entry))) ⌝ }
+{
+    let k = match address_in(next, cs) {
+        Byte::Is(k) => k,
+        Byte::Error(e) => {
+            return Heard::Error(e);
+        }
+    };
+    if rest_at(cs) < cs.len() {
+        return Heard::Error(2);
+    }
+    Heard::Is(Asked::Read(k))
+}
+
+// A write: an address that can be written, and now; then its data.
+fn write_command(mode: Mode, parameter: u8, next: u8, cs: &[u8]) -> Heard
+    requires { ⌜ (3 ≤ length (now cs)) × (hasAddress (now cs) ≡ true) ⌝ }
+    ensures write { λ r. ⌜ r ≡ heardOf (writeCommand mode parameter next (now (cs .entry))) ⌝ }
+{
+    let k = match address_in(next, cs) {
+        Byte::Is(k) => k,
+        Byte::Error(e) => {
+            return Heard::Error(e);
+        }
+    };
+    if is_writable(k) {
+        if is_open(mode, k) {
+            let at = rest_at(cs);
+            let data = match data_in(mode, parameter, k, &cs[at..]) {
+                Given::Is(data) => data,
+                Given::Error(e) => {
+                    return Heard::Error(e);
+                }
+            };
+            return Heard::Is(Asked::Write(k, data));
+        }
+        return Heard::Error(5);
+    }
+    Heard::Error(4)
+}
+
+// The third character is I or D, or there are five.
+fn has_address(cs: &[u8]) -> bool
+    requires { ⌜ 3 ≤ length (now cs) ⌝ }
+    ensures address { λ r. ⌜ r ≡ hasAddress (now (cs .entry)) ⌝ }
+{
+    if is_stepwise(cs) {
+        return true;
+    }
+    5 <= cs.len()
+}
+
+// Check 2: not overlong, C, then R or W, and room for an address.
+fn in_format(overlong: bool, cs: &[u8]) -> bool
+    requires { ⌜ 3 ≤ length (now cs) ⌝ }
+    ensures format { λ r. ⌜ r ≡ inFormat overlong (now (cs .entry)) ⌝ }
+{
+    if overlong {
+        return false;
+    }
+    if cs[0] != b'C' {
+        return false;
+    }
+    let second = cs[1];
+    if second == b'R' {
+        return has_address(cs);
+    }
+    if second == b'W' {
+        return has_address(cs);
+    }
+    false
+}
+
+// Characters in capitals, check by check.
+fn command_in(cs: &[u8], w: Wire, mode: Mode, parameter: u8) -> Heard
+    ensures command { λ r. ⌜ r ≡ heardOf (commandIn (now (cs .entry)) w mode parameter) ⌝ }
+{
+    if cs.len() < 3 {
+        return Heard::Error(1);
+    }
+    if in_format(w.overlong, cs) {
+        if cs[1] == b'R' {
+            return read_command(w.nextread, cs);
+        }
+        return write_command(mode, parameter, w.nextwrite, cs);
+    }
+    Heard::Error(2)
+}
+
+// What the collected characters ask for.
+pub fn command(w: Wire, mode: Mode, parameter: u8) -> Heard
+    requires { ⌜ w .len ≤ 32 ⌝ }
+    ensures command { λ r. ⌜ r ≡ heardOf (command w mode parameter) ⌝ }
+{
+    let len = w.len;
+    let chars = w.chars;
+    let sent = capitals(chars, len);
+    command_in(&sent[0..len], w, mode, parameter)
 }

@@ -1,11 +1,10 @@
-use Rattle.lines.specs.Line.{bytesOf}
-use Rattle.formats.specs.Digits.{digits}
-use mathlib.Core.Path.{_≡_, refl, sym, ap, _∙_}
+-- `lines::bytes_of` meets its contract: byte by byte, for each kind of line.
+-- Assumes nothing.
 use borrow.Author.Needs.{needs}
+use Rattle.formats.specs.Digits.{digits}
+use Rattle.lines.specs.Line.{bytesOf}
 use Rattle.lines.proofs.bytes_of.Statement.{statement}
 use Rattle.lines.proofs.bytes_of.Tie as tie
-use Rattle.lines.proofs.bytes_of.Reads as reads
-use Rattle.lines.proofs.bytes_of.Lts as lts
 
 enum-known-l : tie.Need-enum-known-l
 enum-known-l c = search needs

@@ -1,16 +1,12 @@
-use native.Mathlib.Omega.{arith}
+-- `lines::clean` meets its contract: after i turns the first i lines are cleaned, and the rest is as it was.
+-- Assumes nothing.
+use Prim.Native.Nat.{_-_, _≤_}
+use mathlib.Core.Path.{_≡_, _∙_}
+use lib.ListN.{length}
 use borrow.Author.Needs.{needs}
 use Rattle.lines.proofs.Cleaning.{cleanedTo, cleaning-begins, cleaning-goes-on, cleaning-ends}
-use Rattle.lines.specs.Program.{lineAt, putLine, cleaned}
-use lib.ListN.{length}
-use Prim.Native.Nat.{_+_, _*_, _-_, _≤_}
-use mathlib.Core.Path.{_≡_, refl, sym, ap, _∙_}
 use Rattle.lines.proofs.clean.Statement.{statement}
 use Rattle.lines.proofs.clean.Tie as tie
-use Rattle.lines.proofs.clean.Reads as reads
-use Rattle.lines.proofs.clean.Lts as lts
-use Rattle.lines.proofs.line_at.Reads as line-at-reads
-use Rattle.lines.proofs.put_line.Reads as put-line-reads
 
 abbrev Inv-loop : tie.InvT-loop
 Inv-loop from to₀ i₀ to i = (i ≤ 200) × (length to ≡ 1600) × (to ≡ cleanedTo i from to₀)

@@ -1,13 +1,12 @@
-use mathlib.Core.Path.{_≡_, refl, sym, ap, _∙_}
-use borrow.Author.Tests.{eq-eqb, ne-eqb, lt-leb, le-leb, not-true, not-false}
+-- `lines::for_line` meets its contract: each way out by its test.
+-- Assumes nothing.
 use mathlib.Core.Path.{sym, _∙_}
+use mathlib.Core.Path.{sym, _∙_}
+use borrow.Author.Tests.{eq-eqb, ne-eqb, lt-leb, le-leb, not-true, not-false}
 use borrow.Author.Tests.{eq-eqb, ne-eqb, lt-leb, le-leb}
 use borrow.Author.Needs.{needs}
 use Rattle.lines.proofs.for_line.Statement.{statement}
 use Rattle.lines.proofs.for_line.Tie as tie
-use Rattle.lines.proofs.for_line.Reads as reads
-use Rattle.lines.proofs.for_line.Lts as lts
-use Rattle.lines.proofs.is_counter.Reads as is-counter-reads
 
 is-counter-requires : tie.Need-is-counter-requires
 is-counter-requires c κs = search needs

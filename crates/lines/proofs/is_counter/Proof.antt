@@ -1,8 +1,8 @@
-use borrow.Author.Tests.{eq-eqb, ne-eqb, lt-leb, le-leb}
+-- `lines::is_counter` meets its contract: both bounds are tests of the code.
+-- Assumes nothing.
+use borrow.Author.Tests.{lt-leb, le-leb}
 use Rattle.lines.proofs.is_counter.Statement.{statement}
 use Rattle.lines.proofs.is_counter.Tie as tie
-use Rattle.lines.proofs.is_counter.Reads as reads
-use Rattle.lines.proofs.is_counter.Lts as lts
 
 returns : tie.Need-returns
 returns c = simp (lt-leb _ _ (c .if1 .taken))

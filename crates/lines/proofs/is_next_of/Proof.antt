@@ -1,9 +1,9 @@
-use Rattle.lines.proofs.Search.{no-next}
+-- `lines::is_next_of` meets its contract: by the kind of line.
+-- Assumes nothing.
 use borrow.Author.Needs.{needs}
+use Rattle.lines.proofs.Search.{no-next}
 use Rattle.lines.proofs.is_next_of.Statement.{statement}
 use Rattle.lines.proofs.is_next_of.Tie as tie
-use Rattle.lines.proofs.is_next_of.Reads as reads
-use Rattle.lines.proofs.is_next_of.Lts as lts
 
 enum-known-l : tie.Need-enum-known-l
 enum-known-l c = search needs

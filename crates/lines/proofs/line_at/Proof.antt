@@ -1,14 +1,13 @@
-use Rattle.lines.proofs.Writing.{rest-of}
+-- `lines::line_at` meets its contract: what is lent from byte 8 k on is the program without its first k lines.
+-- Assumes nothing.
 use Prim.Native.Nat.{_*_}
 use mathlib.Core.Path.{ap, _∙_}
+use borrow.Author.Needs.{needs}
+use Rattle.lines.proofs.Writing.{rest-of}
 use Rattle.lines.specs.Line.{readLine}
 use Rattle.lines.specs.Program.{lineAt}
-use borrow.Author.Needs.{needs}
 use Rattle.lines.proofs.line_at.Statement.{statement}
 use Rattle.lines.proofs.line_at.Tie as tie
-use Rattle.lines.proofs.line_at.Reads as reads
-use Rattle.lines.proofs.line_at.Lts as lts
-use Rattle.lines.proofs.read_line.Reads as read-line-reads
 
 mul-read-line : tie.Need-mul-read-line
 mul-read-line c = search needs

@@ -1,16 +1,14 @@
+-- `lines::next_after` meets its contract: the loop keeps the search from line i on equal to the search asked for.
+-- Assumes nothing.
+use Prim.Native.Nat.{_-_, _≤_}
+use mathlib.Core.Bool.{true, false}
+use mathlib.Core.Path.{_≡_, sym, ap, _∙_}
 use borrow.Author.Needs.{needs}
 use Rattle.lines.proofs.Search.{nextFrom, search-begins, search-found, search-on, search-ends}
 use Rattle.lines.specs.Program.{lineAt, isNextOf, nextAfter}
 use Rattle.lines.specs.declared.Line.{Line}
-use mathlib.Core.Bool.{true, false}
-use Prim.Native.Nat.{_+_, _*_, _-_, _≤_}
-use mathlib.Core.Path.{_≡_, refl, sym, ap, _∙_}
 use Rattle.lines.proofs.next_after.Statement.{statement}
 use Rattle.lines.proofs.next_after.Tie as tie
-use Rattle.lines.proofs.next_after.Reads as reads
-use Rattle.lines.proofs.next_after.Lts as lts
-use Rattle.lines.proofs.is_next_of.Reads as is-next-of-reads
-use Rattle.lines.proofs.line_at.Reads as line-at-reads
 
 abbrev Inv-loop : tie.InvT-loop
 Inv-loop p c k i₀ i = (i ≤ 200) × (nextAfter p c k ≡ nextFrom p c i)

@@ -1,15 +1,14 @@
+-- `lines::next_line` meets its contract: each way out by its test; six bytes are 0 if their high and their low part are.
+-- Assumes nothing.
 use Prim.Native.Nat.{_+_, _*_}
-use mathlib.Core.Path.{_≡_, refl, sym, ap, _∙_}
-use borrow.Author.Tests.{eq-eqb, ne-eqb, lt-leb, le-leb, not-true, not-false}
-use native.Mathlib.Omega.{arith}
 use mathlib.Core.Path.{sym, _∙_}
-use borrow.Author.Tests.{eq-eqb, ne-eqb, lt-leb, le-leb}
+use mathlib.Core.Path.{sym, _∙_}
+use native.Mathlib.Omega.{arith}
+use borrow.Author.Tests.{eq-eqb, ne-eqb, not-true, not-false}
+use borrow.Author.Tests.{eq-eqb, ne-eqb}
 use borrow.Author.Needs.{needs}
 use Rattle.lines.proofs.next_line.Statement.{statement}
 use Rattle.lines.proofs.next_line.Tie as tie
-use Rattle.lines.proofs.next_line.Reads as reads
-use Rattle.lines.proofs.next_line.Lts as lts
-use Rattle.lines.proofs.is_counter.Reads as is-counter-reads
 
 is-counter-requires : tie.Need-is-counter-requires
 is-counter-requires c κs = search needs

@@ -1,13 +1,12 @@
+-- `lines::put_line` meets its contract: what comes back of the lent part stands between what was before it and after it.
+-- Assumes nothing.
+use Prim.Native.Nat.{_*_}
+use mathlib.Core.Path.{_∙_}
+use borrow.Author.Needs.{needs}
 use Rattle.lines.proofs.Writing.{put-part}
 use Rattle.lines.specs.Program.{putLine}
-use Prim.Native.Nat.{_+_, _*_, _-_, _≤_}
-use mathlib.Core.Path.{_≡_, refl, sym, ap, _∙_}
-use borrow.Author.Needs.{needs}
 use Rattle.lines.proofs.put_line.Statement.{statement}
 use Rattle.lines.proofs.put_line.Tie as tie
-use Rattle.lines.proofs.put_line.Reads as reads
-use Rattle.lines.proofs.put_line.Lts as lts
-use Rattle.lines.proofs.write_line.Reads as write-line-reads
 
 mul-write-line : tie.Need-mul-write-line
 mul-write-line c = search needs

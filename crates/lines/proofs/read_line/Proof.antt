@@ -1,15 +1,10 @@
-use Rattle.lines.proofs.Fields.{state-bytes, for-bytes, next-bytes, no-line}
-use mathlib.Core.Path.{_≡_, refl, sym, ap, _∙_}
+-- `lines::read_line` meets its contract: by the first byte, with the laws of Fields.antt.
+-- Assumes nothing.
+use mathlib.Core.Path.{_∙_}
 use borrow.Author.Needs.{needs}
+use Rattle.lines.proofs.Fields.{state-bytes, for-bytes, next-bytes, no-line}
 use Rattle.lines.proofs.read_line.Statement.{statement}
 use Rattle.lines.proofs.read_line.Tie as tie
-use Rattle.lines.proofs.read_line.Reads as reads
-use Rattle.lines.proofs.read_line.Lts as lts
-use Rattle.lines.proofs.for_line.Reads as for-line-reads
-use Rattle.lines.proofs.four.Reads as four-reads
-use Rattle.lines.proofs.next_line.Reads as next-line-reads
-use Rattle.lines.proofs.state_line.Reads as state-line-reads
-use Rattle.lines.proofs.two.Reads as two-reads
 
 shared-slice-read-first : tie.Need-shared-slice-read-first
 shared-slice-read-first c = search needs

@@ -1,8 +1,8 @@
+-- `lines::state_line` meets its contract: each way out by its test.
+-- Assumes nothing.
 use borrow.Author.Tests.{eq-eqb, ne-eqb, lt-leb, le-leb}
 use Rattle.lines.proofs.state_line.Statement.{statement}
 use Rattle.lines.proofs.state_line.Tie as tie
-use Rattle.lines.proofs.state_line.Reads as reads
-use Rattle.lines.proofs.state_line.Lts as lts
 
 returns : tie.Need-returns
 returns c = simp (ne-eqb _ _ (c .if1 .taken))

@@ -1,13 +1,12 @@
-use Rattle.lines.proofs.Writing.{over, eightOf, eight-bytes}
+-- `lines::write_line` meets its contract: a part of eight bytes that is written over whole is what was written.
+-- Assumes nothing.
+use mathlib.Core.Path.{_∙_}
 use lib.ListN.{length-set}
 use native.Mathlib.Omega.{arith}
-use mathlib.Core.Path.{_≡_, refl, sym, ap, _∙_}
 use borrow.Author.Needs.{needs}
+use Rattle.lines.proofs.Writing.{over, eightOf, eight-bytes}
 use Rattle.lines.proofs.write_line.Statement.{statement}
 use Rattle.lines.proofs.write_line.Tie as tie
-use Rattle.lines.proofs.write_line.Reads as reads
-use Rattle.lines.proofs.write_line.Lts as lts
-use Rattle.lines.proofs.bytes_of.Reads as bytes-of-reads
 
 bytes-of-requires : tie.Need-bytes-of-requires
 bytes-of-requires c κs = search needs

@@ -1,0 +1,52 @@
+-- `running::Run::run_line` meets its contract: by the kind of line, whose counter lies in its range.
+-- Assumes nothing.
+use mathlib.Core.Path.{sym, _∙_}
+use borrow.Author.Needs.{needs}
+use Rattle.running.proofs.Turns.{for-counter, next-counter}
+use Rattle.running.specs.Running.{runLine, step}
+use Rattle.running.proofs.Run.run_line.Statement.{statement}
+use Rattle.running.proofs.Run.run_line.Tie as tie
+
+enum-known-line : tie.Need-enum-known-line
+enum-known-line c = search needs
+
+run-state-requires : tie.Need-run-state-requires
+run-state-requires c κs = search needs
+
+enum-known-line-2 : tie.Need-enum-known-line-2
+enum-known-line-2 c = search needs
+
+run-for-requires : tie.Need-run-for-requires
+run-for-requires c κs = (c .before .before .before .before .pre .0, c .before .before .before .before .pre .1 .lineInProgram, for-counter _ _ (sym (c .before .before .before .before .pre .2) ∙ c .before .line2 .given .1))
+
+enum-known-line-3 : tie.Need-enum-known-line-3
+enum-known-line-3 c = search needs
+
+run-next-requires : tie.Need-run-next-requires
+run-next-requires c κs = (c .before .before .before .before .pre .1, next-counter _ _ (sym (c .before .before .before .before .pre .2) ∙ c .before .line3 .given .1))
+
+returns : tie.Need-returns
+unfolding step runLine
+returns c = simp (c .run-state .ensures, sym (c .before .before .before .before .before .pre .2) ∙ c .before .before .line .given .1)
+
+returns-2 : tie.Need-returns-2
+unfolding step runLine
+returns-2 c = simp (c .run-for .ensures, sym (c .before .before .before .before .before .pre .2) ∙ c .before .before .line2 .given .1)
+
+returns-3 : tie.Need-returns-3
+unfolding step runLine
+returns-3 c = simp (c .run-next .ensures, sym (c .before .before .before .before .before .pre .2) ∙ c .before .before .line3 .given .1)
+
+pub run-line-spec : {M : Type 1} → statement M
+run-line-spec =
+    tie.close
+    (tie.spec
+    enum-known-line
+    run-state-requires
+    enum-known-line-2
+    run-for-requires
+    enum-known-line-3
+    run-next-requires
+    returns
+    returns-2
+    returns-3)

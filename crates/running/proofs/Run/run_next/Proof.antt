@@ -1,0 +1,74 @@
+-- `running::Run::run_next` meets its contract: each way out by its tests; a For that holds a counter has a later line, so the line after it fits.
+-- Assumes nothing.
+use Prim.Native.Nat.{_-_}
+use native.Mathlib.Omega.{arith}
+use borrow.Author.Tests.{eq-eqb, ne-eqb, lt-ltb, le-ltb}
+use borrow.Author.Needs.{needs}
+use Rattle.running.proofs.Turns.{counter-range}
+use Rattle.running.specs.Running.{runLine}
+use Rattle.running.proofs.Run.run_next.Statement.{statement}
+use Rattle.running.proofs.Run.run_next.Tie as tie
+
+sub-c : tie.Need-sub-c
+sub-c c = omega (arith, counter-range (c .args .counter) (c .pre .1))
+
+cast-c : tie.Need-cast-c
+cast-c c = search needs
+
+mul-held : tie.Need-mul-held
+mul-held c = search needs
+
+element-copy-out-held : tie.Need-element-copy-out-held
+element-copy-out-held c = omega (arith, counter-range (c .args .counter) (c .pre .1))
+
+returns : tie.Need-returns
+unfolding runLine
+returns c = simp (eq-eqb _ _ (c .if1 .taken))
+
+sub-left : tie.Need-sub-left
+sub-left c = search needs
+
+mul-t18 : tie.Need-mul-t18
+mul-t18 c = search needs
+
+element-set-from-self : tie.Need-element-set-from-self
+element-set-from-self c = omega (arith, counter-range (c .before .before .before .args .counter) (c .before .before .before .pre .1))
+
+add-self : tie.Need-add-self
+add-self c = omega (arith, c .before .before .before .pre .0 .forLine (c .before .before .before .args .counter - 1))
+
+returns-2 : tie.Need-returns-2
+unfolding runLine
+returns-2 c = simp (ne-eqb _ _ (c .before .if1 .left), lt-ltb _ _ (c .if2 .taken))
+
+mul-t10 : tie.Need-mul-t10
+mul-t10 c = search needs
+
+element-set-from-self-2 : tie.Need-element-set-from-self-2
+element-set-from-self-2 c = omega (arith, counter-range (c .before .before .before .args .counter) (c .before .before .before .pre .1))
+
+onward-requires : tie.Need-onward-requires
+onward-requires c κs = search needs
+
+returns-3 : tie.Need-returns-3
+unfolding runLine
+returns-3 c = simp (c .onward .ensures, ne-eqb _ _ (c .before .before .if1 .left), le-ltb _ _ (c .before .if2 .left))
+
+pub run-next-spec : {M : Type 1} → statement M
+run-next-spec =
+    tie.close
+    (tie.spec
+    sub-c
+    cast-c
+    mul-held
+    element-copy-out-held
+    returns
+    sub-left
+    mul-t18
+    element-set-from-self
+    add-self
+    returns-2
+    mul-t10
+    element-set-from-self-2
+    onward-requires
+    returns-3)

@@ -1,0 +1,65 @@
+-- `running::Run::tick` meets its contract: by the tests, and by what going on led to.
+-- Assumes nothing.
+use mathlib.Core.Path.{_∙_}
+use borrow.Author.Tests.{not-false, lt-ltb}
+use borrow.Author.Needs.{needs}
+use Rattle.running.proofs.Turns.{tick-holds, tick-ends, tick-runs, tick-going}
+use Rattle.running.proofs.Invariant.{goes-on, still}
+use Rattle.running.specs.Running.{tick}
+use Rattle.running.proofs.Run.tick.Statement.{statement}
+use Rattle.running.proofs.Run.tick.Tie as tie
+
+returns : tie.Need-returns
+unfolding tick
+returns c = simp (c .if1 .taken)
+
+sub-self : tie.Need-sub-self
+sub-self c = search needs
+
+returns-2 : tie.Need-returns-2
+unfolding tick
+returns-2 c = simp (c .before .if1 .left, lt-ltb _ _ (c .if2 .taken))
+
+onward-requires : tie.Need-onward-requires
+onward-requires c κs = search needs
+
+enum-told : tie.Need-enum-told
+enum-told c = search needs
+
+enum-known-how : tie.Need-enum-known-how
+enum-known-how c = search needs
+
+stopped-requires : tie.Need-stopped-requires
+stopped-requires c κs = search needs
+
+enum-told-2 : tie.Need-enum-told-2
+enum-told-2 c = search needs
+
+run-due-requires : tie.Need-run-due-requires
+run-due-requires c κs = let g = tick-going (c .before .before .before .before .before .before .before .args .p .now) _ _ (not-false (c .before .before .before .before .before .before .before .args .self .on) (c .before .before .before .before .before .if1 .left)) (c .before .before .before .before .if2 .left) (c .before .before .before .onward .ensures) (goes-on _ (not-false (c .before .before .before .before .before .before .before .args .self .on) (c .before .before .before .before .before .if1 .left)) (c .before .before .before .before .before .before .before .pre .1)) in (c .before .before .before .before .before .before .before .pre .0, g .on, still g)
+
+returns-3 : tie.Need-returns-3
+returns-3 c = tick-holds _ _ _ (not-false (c .before .before .before .before .before .before .before .args .self .on) (c .before .before .before .before .before .if1 .left)) (c .before .before .before .before .if2 .left) (c .before .before .before .onward .ensures) (c .enum-told .given .1)
+
+returns-4 : tie.Need-returns-4
+returns-4 c = simp (c .stopped .ensures) (tick-ends _ _ _ (not-false (c .before .before .before .before .before .before .before .before .before .args .self .on) (c .before .before .before .before .before .before .before .if1 .left)) (c .before .before .before .before .before .before .if2 .left) (c .before .before .before .before .before .onward .ensures) (c .before .before .how .given .1))
+
+returns-5 : tie.Need-returns-5
+returns-5 c = c .run-due .ensures ∙ tick-runs _ _ _ (not-false (c .before .before .before .before .before .before .before .before .args .self .on) (c .before .before .before .before .before .before .if1 .left)) (c .before .before .before .before .before .if2 .left) (c .before .before .before .before .onward .ensures) (c .before .enum-told2 .given .1)
+
+pub tick-spec : {M : Type 1} → statement M
+tick-spec =
+    tie.close
+    (tie.spec
+    returns
+    sub-self
+    returns-2
+    onward-requires
+    enum-told
+    enum-known-how
+    stopped-requires
+    enum-told-2
+    run-due-requires
+    returns-3
+    returns-4
+    returns-5)

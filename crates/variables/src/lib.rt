@@ -1,0 +1,127 @@
+// The 217 variables: what a read of an address answers, and the output word with one of its bytes written.
+// 01, 'Variables', its table. Definitions: specs/Variables.antt.
+ghost use mathlib.Core.Path.{_≡_};
+ghost use Prim.Native.Nat.{_-_, _*_, _≤_};
+ghost use lib.ListN.{length};
+ghost use Rattle.formats.specs.Digits.{h, d, 2d};
+ghost use Rattle.formats.specs.Values.{textOf};
+ghost use Rattle.lines.specs.Line.{readLine};
+ghost use Rattle.running.specs.Running.{counter};
+ghost use Rattle.variables.specs.Variables.{lineOf, statusBits, outputByte, withOutputByte, value};
+use formats::Text;
+use lines::Line;
+use running::Run;
+
+// The variables that stand beside the program, the run and the wire.
+pub struct Panel {
+    // 200, the single command, in the eight bytes of a line
+    pub single: [u8; 8],
+    // 209
+    pub parameter: u8,
+    // 210, the last accepted special command
+    pub special: u8,
+    // 212, and D7 of 201
+    pub event: u8,
+    pub unread: bool,
+}
+
+// ---- bits
+
+// How many bits of the output word stand below the byte at 203-206.
+fn bits_below(k: u8) -> u32
+    requires { ⌜ (203 ≤ k) × (k ≤ 206) ⌝ }
+    ensures bits { λ r. ⌜ r ≡ 8 * (206 - k) ⌝ }
+{
+    8 * ((206 - k) as u32)
+}
+
+// The byte of the output word that 203-206 shows.
+pub fn output_byte(word: u32, k: u8) -> u8
+    requires { ⌜ (203 ≤ k) × (k ≤ 206) ⌝ }
+    ensures byte { λ r. ⌜ r ≡ outputByte k word ⌝ }
+{
+    let s = bits_below(k);
+    ((word >> s) % 256) as u8
+}
+
+// The output word with the byte x at 203-206: its eight bits are altered, and no other bit.
+pub fn with_output_byte(word: u32, k: u8, x: u8) -> u32
+    requires { ⌜ (203 ≤ k) × (k ≤ 206) ⌝ }
+    ensures word { λ r. ⌜ r ≡ withOutputByte k x word ⌝ }
+{
+    let s = bits_below(k);
+    let mask: u32 = 0xFF << s;
+    (word & !mask) | ((x as u32) << s)
+}
+
+// The byte at 201: D7 unread event, D1 running, D0 paused.
+pub fn status(unread: bool, on: bool, paused: bool) -> u8
+    ensures bits { λ r. ⌜ r ≡ statusBits unread on paused ⌝ }
+{
+    (unread as u8) << 7 | (on as u8) << 1 | (paused as u8)
+}
+
+// ---- reads
+
+// The line at 200: what the eight bytes of the single command say.
+fn single_line(single: &[u8; 8]) -> Line
+    ensures line { λ r. ⌜ r ≡ readLine (now (single .entry)) ⌝ }
+{
+    lines::read_line(single)
+}
+
+// The line at 000-200.
+pub fn line_of(panel: Panel, program: &[u8], k: u8) -> Line
+    requires { ⌜ (length (now program) ≡ 1600) × (k ≤ 200) ⌝ }
+    ensures line { λ r. ⌜ r ≡ lineOf panel (now (program .entry)) k ⌝ }
+{
+    if k == 200 {
+        let single = panel.single;
+        return single_line(&single);
+    }
+    lines::line_at(program, k as usize)
+}
+
+// A byte in the format h, two hex digits.
+fn hex(v: u8) -> Text
+    ensures text { λ r. ⌜ (textOf r ≡ h v) × (r .len ≤ 15) ⌝ }
+{
+    Text::new().shown(16, 2, v as u32)
+}
+
+// A byte in the format d, three decimal digits.
+fn decimal(v: u8) -> Text
+    ensures text { λ r. ⌜ (textOf r ≡ d v) × (r .len ≤ 15) ⌝ }
+{
+    Text::new().shown(10, 3, v as u32)
+}
+
+// The count at 213-216, in four decimal digits.
+fn count(run: Run, k: u8) -> Text
+    requires { ⌜ (213 ≤ k) × (k ≤ 216) ⌝ }
+    ensures text { λ r. ⌜ (textOf r ≡ 2d (counter run (k - 212) .count)) × (r .len ≤ 15) ⌝ }
+{
+    let counters = run.counters;
+    let counter = counters[(k - 213) as usize];
+    Text::new().shown(10, 4, counter.count as u32)
+}
+
+// What a read of address k answers.
+pub fn value(panel: Panel, run: Run, paused: bool, program: &[u8], k: u8) -> Text
+    requires { ⌜ (length (now program) ≡ 1600) × (k ≤ 216) ⌝ }
+    ensures answer { λ r. ⌜ (textOf r ≡ value panel run paused (now (program .entry)) k) × (r .len ≤ 15) ⌝ }
+{
+    match k {
+        0..=200 => texts::line_text(line_of(panel, program, k)),
+        201 => hex(status(panel.unread, run.on, paused)),
+        202 => hex(0),
+        203..=206 => hex(output_byte(run.outputs, k)),
+        207 => hex(0),
+        208 => decimal(0),
+        209 => decimal(panel.parameter),
+        210 => decimal(panel.special),
+        211 => decimal(run.line),
+        212 => decimal(panel.event),
+        _ => count(run, k),
+    }
+}

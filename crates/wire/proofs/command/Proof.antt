@@ -1,0 +1,35 @@
+-- `wire::command` meets its contract: the copy in capitals is what was sent.
+-- Assumes nothing.
+use Rattle.wire.proofs.Ways.{heard-sent}
+use borrow.Author.Needs.{needs}
+use Rattle.wire.proofs.command.Statement.{statement}
+use Rattle.wire.proofs.command.Tie as tie
+
+capitals-requires : tie.Need-capitals-requires
+capitals-requires c κs = search needs
+
+sub-command-in : tie.Need-sub-command-in
+sub-command-in c = search needs
+
+part-command-in-start : tie.Need-part-command-in-start
+part-command-in-start c = search needs
+
+part-command-in-end : tie.Need-part-command-in-end
+part-command-in-end c = search needs
+
+command-in-requires : tie.Need-command-in-requires
+command-in-requires c κs = search needs
+
+returns : tie.Need-returns
+returns c = heard-sent (c .before .before .before .before .before .args .w) (c .before .before .before .before .before .args .mode) (c .before .before .before .before .before .args .parameter) _ (c .before .before .before .capitals .ensures) (c .command-in .ensures)
+
+pub command-spec : {M : Type 1} → statement M
+command-spec =
+    tie.close
+    (tie.spec
+    capitals-requires
+    sub-command-in
+    part-command-in-start
+    part-command-in-end
+    command-in-requires
+    returns)
