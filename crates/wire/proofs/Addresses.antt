@@ -14,7 +14,7 @@ use Rattle.formats.specs.Digits.{digits, digitChar, shown, numberIn}
 use Rattle.formats.proofs.Checks.{if-case, both-true, below, Ok, ok-passed, ok-guard}
 use Rattle.formats.proofs.Characters.{shown-back}
 use Rattle.lines.specs.Line.{part}
-use Rattle.wire.specs.Command.{char, isRead, isWrite, isStepwise, hasAddress, inFormat, rest, addressIn}
+use Rattle.wire.specs.Command.{char, isRead, isWrite, isStepwise, hasAddress, inFormat, rest, addressIn, isWritable}
 use Rattle.wire.specs.Naming.{Names, byDigits, byI, byD}
 
 -- no digit is the letter I or D
@@ -85,3 +85,9 @@ rest-none cs at e le = eq-eqb (length (rest cs)) 0 (let n : length (rest cs) ≡
 -- a command in the format has room for an address
 pub format-address : (overlong : Bool) (cs : List ℕ) → inFormat overlong cs ≡ true → hasAddress cs ≡ true
 format-address overlong cs e = both-true (not overlong && eqb (char cs 0) (code "C") && (isRead cs || isWrite cs)) (hasAddress cs) e .1
+
+-- the outputs begin at 203: 201 and 202 cannot be written
+pub outputs-from : (k : ℕ) → isWritable k ≡ true → leb k 200 ≡ false → k ≤ 206 → 203 ≤ k
+outputs-from k can above le =
+    let e = below (λ j. not (isWritable j) || leb j 200 || leb 203 j) 207 refl k (omega arith) in
+    leb-true 203 k (rw (can, above) at e)

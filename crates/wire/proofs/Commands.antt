@@ -27,7 +27,7 @@ use Rattle.special.specs.Special.{allowed, specialOf, inReach}
 use Rattle.wire.specs.Command.{isRead, rest, isWritable, isOpen, specialIn, dataIn, readCommand, writeCommand, commandIn, command}
 use Rattle.wire.specs.Naming.{Names}
 use Rattle.wire.specs.Invariant.{WireInvariant}
-use Rattle.wire.proofs.Addresses.{found, address-inside}
+use Rattle.wire.proofs.Addresses.{outputs-from, found, address-inside}
 
 -- ---- what a command that passes the checks can ask for
 
@@ -36,10 +36,10 @@ pub record Permitted (mode : Mode) (parameter : ℕ) (s : Special) : Type 0 wher
   pub may : allowed s mode ≡ true
   pub reaches : inReach s parameter ≡ true
 
--- a line goes to 000-200, and a special command is permitted
+-- a line goes to 000-200, outputs go to 203-206, and a special command is permitted
 abbrev pub DataSound : Mode → ℕ → ℕ → Data → Type 0
 DataSound mode parameter k (WriteLine l) = k ≤ 200
-DataSound mode parameter k (WriteOutputs x) = Unit {0}
+DataSound mode parameter k (WriteOutputs x) = (203 ≤ k) × (k ≤ 206)
 DataSound mode parameter k (WriteParameter v) = Unit {0}
 DataSound mode parameter k (WriteSpecial s) = Permitted mode parameter s
 
@@ -56,11 +56,12 @@ module _ (mode : Mode) (parameter : ℕ) where
       ok-guard (DataSound mode parameter k) (allowed s mode) 5 _ λ e.
       ok-guard (DataSound mode parameter k) (inReach s parameter) 4 _ λ f. record { may = e; reaches = f }
 
-  data-sound : (k : ℕ) (cs : List ℕ) → Ok (DataSound mode parameter k) (dataIn mode parameter k cs)
+  data-sound : (k : ℕ) (cs : List ℕ) → isWritable k ≡ true → Ok (DataSound mode parameter k) (dataIn mode parameter k cs)
   unfolding dataIn
-  data-sound k cs =
-      if-case (Ok (DataSound mode parameter k)) (leb k 200) (λ e. ok-passed (DataSound mode parameter k) (lineIn cs) _ λ l _. leb-true k 200 e) λ _.
-      if-case (Ok (DataSound mode parameter k)) (leb k 206) (λ _. ok-passed (DataSound mode parameter k) (hIn cs) _ λ x _. tt) λ _.
+  data-sound k cs can =
+      if-case (Ok (DataSound mode parameter k)) (leb k 200) (λ e. ok-passed (DataSound mode parameter k) (lineIn cs) _ λ l _. leb-true k 200 e) λ f.
+      if-case (Ok (DataSound mode parameter k)) (leb k 206)
+      (λ e. ok-passed (DataSound mode parameter k) (hIn cs) _ λ x _. (outputs-from k can f (leb-true k 206 e), leb-true k 206 e)) λ _.
       if-case (Ok (DataSound mode parameter k)) (eqb k 209) (λ _. ok-passed (DataSound mode parameter k) (dIn cs) _ λ v _. tt) λ _.
       special-sound k cs
 
@@ -73,8 +74,8 @@ module _ (mode : Mode) (parameter : ℕ) where
       if-case (Ok P) (isRead (sent w))
       (λ _. ok-bind P (λ k. k ≤ 216) _ _ (address-inside (w .nextread) (sent w) (i .nextRead)) λ k le. ok-guard P _ 2 _ λ _. le) λ _.
       ok-bind P (λ k. k ≤ 216) _ _ (address-inside (w .nextwrite) (sent w) (i .nextWrite)) λ k le.
-      ok-guard P (isWritable k) 4 _ λ _. ok-guard P (isOpen mode k) 5 _ λ _.
-      ok-bind P (DataSound mode parameter k) (dataIn mode parameter k (rest (sent w))) _ (data-sound k (rest (sent w))) λ x h. (le, h)
+      ok-guard P (isWritable k) 4 _ λ can. ok-guard P (isOpen mode k) 5 _ λ _.
+      ok-bind P (DataSound mode parameter k) (dataIn mode parameter k (rest (sent w))) _ (data-sound k (rest (sent w)) can) λ x h. (le, h)
 
 -- ---- commands that name an address in any of the three ways
 

@@ -1,0 +1,59 @@
+-- `answers::answer_asked` meets its contract.
+-- Assumes nothing.
+use Rattle.deeds.specs.Values.{areas}
+use Rattle.answers.proofs.Sounds.{sound-read, sound-write}
+use Rattle.answers.proofs.Replies.{asked-answered}
+use borrow.Author.Needs.{needs}
+use Rattle.answers.proofs.answer_asked.Statement.{statement}
+use Rattle.answers.proofs.answer_asked.Tie as tie
+
+enum-known-q : tie.Need-enum-known-q
+enum-known-q c = search needs
+
+answer-read-requires : tie.Need-answer-read-requires
+answer-read-requires c κs = (search needs, search needs, sound-read _ _ (c .before .before .before .q .given .1) (c .before .before .before .before .before .before .before .before .pre .3))
+
+enum-known-q-2 : tie.Need-enum-known-q-2
+enum-known-q-2 c = search needs
+
+answer-write-requires : tie.Need-answer-write-requires
+answer-write-requires c κs =
+    let h = sound-write _ _ (c .before .before .before .before .q2 .given .1) (c .before .before .before .before .before .before .before .before .before .pre .3) in
+    (search needs, search needs, search needs, h .0, h .1)
+
+same-length : tie.Need-same-length
+same-length c = search needs
+
+same-length-2 : tie.Need-same-length-2
+same-length-2 c = search needs
+
+returns : tie.Need-returns
+returns c = λ l. asked-answered (c .before .before .before .before .before .before .before .before .before .before .before .args .c) (areas (c .before .before .before .before .before .before .before .before .before .before .before .args .program .now) (c .before .before .before .before .before .before .before .before .before .before .before .args .saved .now) l (c .before .before .before .before .before .before .before .before .before .before .before .args .reply .now)) _ _ (c .before .before .before .before .before .before .q .given .1) (c .before .before .answer-read .ensures (c .before .before .before .before .before .before .before .before .before .before .before .args .saved .now) l)
+
+same-length-3 : tie.Need-same-length-3
+same-length-3 c = search needs
+
+same-length-4 : tie.Need-same-length-4
+same-length-4 c = search needs
+
+same-length-5 : tie.Need-same-length-5
+same-length-5 c = search needs
+
+returns-2 : tie.Need-returns-2
+returns-2 c = λ l. asked-answered (c .before .before .before .before .before .before .before .before .before .before .before .before .before .before .before .before .args .c) (areas (c .before .before .before .before .before .before .before .before .before .before .before .before .before .before .before .before .args .program .now) (c .before .before .before .before .before .before .before .before .before .before .before .before .before .before .before .before .args .saved .now) l (c .before .before .before .before .before .before .before .before .before .before .before .before .before .before .before .before .args .reply .now)) _ _ (c .before .before .before .before .before .before .before .before .before .before .before .q2 .given .1) (c .before .before .before .before .before .before .answer-write .ensures l)
+
+pub answer-asked-spec : {M : Type 1} → statement M
+answer-asked-spec =
+    tie.close
+    (tie.spec
+    enum-known-q
+    answer-read-requires
+    enum-known-q-2
+    answer-write-requires
+    same-length
+    same-length-2
+    returns
+    same-length-3
+    same-length-4
+    same-length-5
+    returns-2)

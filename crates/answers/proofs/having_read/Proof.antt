@@ -1,0 +1,18 @@
+-- `answers::having_read` meets its contract.
+-- Assumes nothing.
+use borrow.Author.Tests.{eq-eqb, ne-eqb}
+use borrow.Author.Needs.{needs}
+use Rattle.answers.proofs.having_read.Statement.{statement}
+use Rattle.answers.proofs.having_read.Tie as tie
+
+add-next : tie.Need-add-next
+add-next c = search needs
+
+returns : tie.Need-returns
+returns c = simp (eq-eqb _ _ (c .before .before .if1 .taken))
+
+returns-2 : tie.Need-returns-2
+returns-2 c = simp (ne-eqb _ _ (c .if1 .left))
+
+pub having-read-spec : {M : Type 1} → statement M
+having-read-spec = tie.close (tie.spec add-next returns returns-2)
