@@ -153,6 +153,16 @@ fn address_in(next: u8, cs: &[u8]) -> Byte
     Byte::Is(k as u8)
 }
 
+// The two addresses that can be written while running or paused.
+fn is_always_open(k: u8) -> bool
+    ensures either { λ r. ⌜ r ≡ (eqb k 209 || eqb k 210) ⌝ }
+{
+    if k == 209 {
+        return true;
+    }
+    k == 210
+}
+
 // Every address but 201, 202, 207, 208 and 211-216 can be written.
 fn is_writable(k: u8) -> bool
     ensures writable { λ r. ⌜ r ≡ isWritable k ⌝ }
@@ -166,20 +176,7 @@ fn is_writable(k: u8) -> bool
     if k <= 206 {
         return true;
     }
-    if k == 209 {
-        return true;
-    }
-    k == 210
-}
-
-// The two addresses that can be written while running or paused.
-fn is_always_open(k: u8) -> bool
-    ensures either { λ r. ⌜ r ≡ (eqb k 209 || eqb k 210) ⌝ }
-{
-    if k == 209 {
-        return true;
-    }
-    k == 210
+    is_always_open(k)
 }
 
 // Check 4: while running or paused only 209 and 210 can be written.

@@ -1,9 +1,13 @@
 -- `wire::is_writable` meets its contract, by tests from below.
 -- Assumes nothing.
-use borrow.Author.Tests.{eq-eqb, ne-eqb, le-leb, lt-leb}
+use borrow.Author.Needs.{needs}
+use borrow.Author.Tests.{ne-eqb, le-leb, lt-leb}
 use native.Mathlib.Omega.{arith}
 use Rattle.wire.proofs.is_writable.Statement.{statement}
 use Rattle.wire.proofs.is_writable.Tie as tie
+use Rattle.wire.proofs.is_writable.Reads as reads
+use Rattle.wire.proofs.is_writable.Lts as lts
+use Rattle.wire.proofs.is_always_open.Reads as is-always-open-reads
 
 returns : tie.Need-returns
 returns c = simp (le-leb _ _ (c .if1 .taken))
@@ -17,11 +21,11 @@ returns-2 c =
 returns-3 : tie.Need-returns-3
 returns-3 c = simp (lt-leb _ _ (c .before .before .if1 .left), le-leb _ _ (c .before .if2 .left), le-leb _ _ (c .if3 .taken))
 
-returns-4 : tie.Need-returns-4
-returns-4 c = simp (lt-leb _ _ (c .before .before .before .if1 .left), le-leb _ _ (c .before .before .if2 .left), lt-leb _ _ (c .before .if3 .left), eq-eqb _ _ (c .if4 .taken))
+is-always-open-requires : tie.Need-is-always-open-requires
+is-always-open-requires c κs = search needs
 
-returns-5 : tie.Need-returns-5
-returns-5 c = simp (lt-leb _ _ (c .before .before .before .if1 .left), le-leb _ _ (c .before .before .if2 .left), lt-leb _ _ (c .before .if3 .left), ne-eqb _ _ (c .if4 .left))
+returns-4 : tie.Need-returns-4
+returns-4 c = simp (lt-leb _ _ (c .before .before .before .if1 .left), le-leb _ _ (c .before .before .if2 .left), lt-leb _ _ (c .before .if3 .left), c .is-always-open .ensures)
 
 pub is-writable-spec : {M : Type 1} → statement M
-is-writable-spec = tie.close (tie.spec returns returns-2 returns-3 returns-4 returns-5)
+is-writable-spec = tie.close (tie.spec returns returns-2 returns-3 is-always-open-requires returns-4)

@@ -1,0 +1,3 @@
+pub mod Checking
+pub mod Calling
+pub mod Outcome

@@ -1,0 +1,86 @@
+-- `console::one` keeps the invariant, input byte by input byte.
+-- Assumes nothing.
+use mathlib.Core.List.{[]}
+use Rattle.controller.specs.Refusals as Calls
+use Rattle.deeds.specs.Values.{areas}
+use Rattle.console.proofs.Kept.{call-kept}
+use borrow.Author.Needs.{needs}
+use Rattle.console.proofs.one.Statement.{statement}
+use Rattle.console.proofs.one.Tie as tie
+
+tick-requires : tie.Need-tick-requires
+tick-requires c κs = search needs
+
+same-length : tie.Need-same-length
+same-length c = search needs
+
+same-length-2 : tie.Need-same-length-2
+same-length-2 c = search needs
+
+returns : tie.Need-returns
+returns c = call-kept Calls.tick (c .before .before .before .before .before .before .before .before .before .before .before .args .c) (areas (c .before .before .before .before .before .before .before .before .before .before .before .args .program .now) [] (c .before .before .before .before .before .before .before .before .before .before .before .args .log .now) []) (c .before .before .before .tick .ensures) (c .before .before .before .before .before .before .before .before .before .before .before .pre)
+
+press-requires : tie.Need-press-requires
+press-requires c κs = search needs
+
+same-length-3 : tie.Need-same-length-3
+same-length-3 c = search needs
+
+same-length-4 : tie.Need-same-length-4
+same-length-4 c = search needs
+
+returns-2 : tie.Need-returns-2
+returns-2 c = call-kept (Calls.press 1) (c .before .before .before .before .before .before .before .before .before .before .before .before .args .c) (areas (c .before .before .before .before .before .before .before .before .before .before .before .before .args .program .now) [] (c .before .before .before .before .before .before .before .before .before .before .before .before .args .log .now) []) (c .before .before .before .press .ensures) (c .before .before .before .before .before .before .before .before .before .before .before .before .pre)
+
+press-requires-2 : tie.Need-press-requires-2
+press-requires-2 c κs = search needs
+
+same-length-5 : tie.Need-same-length-5
+same-length-5 c = search needs
+
+same-length-6 : tie.Need-same-length-6
+same-length-6 c = search needs
+
+returns-3 : tie.Need-returns-3
+returns-3 c = call-kept (Calls.press 2) (c .before .before .before .before .before .before .before .before .before .before .before .before .before .args .c) (areas (c .before .before .before .before .before .before .before .before .before .before .before .before .before .args .program .now) [] (c .before .before .before .before .before .before .before .before .before .before .before .before .before .args .log .now) []) (c .before .before .before .press2 .ensures) (c .before .before .before .before .before .before .before .before .before .before .before .before .before .pre)
+
+sent-requires : tie.Need-sent-requires
+sent-requires c κs = search needs
+
+same-length-7 : tie.Need-same-length-7
+same-length-7 c = search needs
+
+same-length-8 : tie.Need-same-length-8
+same-length-8 c = search needs
+
+same-length-9 : tie.Need-same-length-9
+same-length-9 c = search needs
+
+same-length-10 : tie.Need-same-length-10
+same-length-10 c = search needs
+
+returns-4 : tie.Need-returns-4
+returns-4 c = search needs
+
+pub one-spec : {M : Type 1} → statement M
+one-spec =
+    tie.close
+    (tie.spec
+    tick-requires
+    same-length
+    same-length-2
+    returns
+    press-requires
+    same-length-3
+    same-length-4
+    returns-2
+    press-requires-2
+    same-length-5
+    same-length-6
+    returns-3
+    sent-requires
+    same-length-7
+    same-length-8
+    same-length-9
+    same-length-10
+    returns-4)

@@ -1,0 +1,51 @@
+-- `console::run` is safe: power-on gives the invariant that the calls require.
+-- Assumes nothing.
+use Rattle.console.proofs.Kept.{power-on-gives}
+use borrow.Author.Needs.{needs}
+use Rattle.console.proofs.run.Statement.{statement}
+use Rattle.console.proofs.run.Tie as tie
+
+slice-aggregate-power-on : tie.Need-slice-aggregate-power-on
+slice-aggregate-power-on c = search needs
+
+slice-aggregate-power-on-2 : tie.Need-slice-aggregate-power-on-2
+slice-aggregate-power-on-2 c = search needs
+
+slice-aggregate-power-on-3 : tie.Need-slice-aggregate-power-on-3
+slice-aggregate-power-on-3 c = search needs
+
+power-on-requires : tie.Need-power-on-requires
+power-on-requires c κs = search needs
+
+slice-aggregate-turns : tie.Need-slice-aggregate-turns
+slice-aggregate-turns c = search needs
+
+slice-aggregate-turns-2 : tie.Need-slice-aggregate-turns-2
+slice-aggregate-turns-2 c = search needs
+
+slice-aggregate-turns-3 : tie.Need-slice-aggregate-turns-3
+slice-aggregate-turns-3 c = search needs
+
+slice-aggregate-turns-4 : tie.Need-slice-aggregate-turns-4
+slice-aggregate-turns-4 c = search needs
+
+turns-requires : tie.Need-turns-requires
+turns-requires c κs = power-on-gives _ (c .before .before .before .before .before .before .power-on .ensures)
+
+returns : tie.Need-returns
+returns c = search needs
+
+pub run-spec : {M : Type 1} → statement M
+run-spec =
+    tie.close
+    (tie.spec
+    slice-aggregate-power-on
+    slice-aggregate-power-on-2
+    slice-aggregate-power-on-3
+    power-on-requires
+    slice-aggregate-turns
+    slice-aggregate-turns-2
+    slice-aggregate-turns-3
+    slice-aggregate-turns-4
+    turns-requires
+    returns)
