@@ -1,44 +1,26 @@
 // The wire's side of the state: bytes are collected, and a finished command is asked for, done and answered.
 // Definitions: those of the layer `controller`, specs/Deeds.antt. An area that a function is not lent stays, whatever it holds.
 ghost use mathlib.Core.Path.{_≡_};
-ghost use mathlib.Core.List.{List, _++_};
-ghost use mathlib.Core.Bool.{true};
-ghost use Prim.Native.Nat.{ℕ, _+_, _*_, _≤_, _<_};
+ghost use mathlib.Core.List.{List};
+ghost use Prim.Native.Nat.{ℕ, _≤_};
 ghost use lib.ListN.{length};
 ghost use Rattle.formats.specs.Values.{textOf};
 ghost use Rattle.formats.specs.Digits.{errorText};
 ghost use Rattle.formats.specs.Checks.{refused, passed, text};
-ghost use Rattle.lines.specs.Program.{cleaned};
 ghost use Rattle.wire.specs.Invariant.{WireInvariant};
 ghost use Rattle.wire.specs.declared.Asked.the-variants.{Read, Write};
-ghost use Rattle.lines.specs.Line.{bytesOf};
-ghost use Rattle.wire.specs.declared.Data.the-variants.{WriteLine};
-ghost use Rattle.running.specs.Running.{withOutputs};
-ghost use Rattle.running.specs.Invariant.{RunInvariant};
-ghost use Rattle.special.specs.Special.{inReach};
-ghost use Rattle.log.specs.Record.{recordSize, leastArea};
-ghost use Rattle.log.specs.Log.{held};
-ghost use Rattle.log.specs.Invariant.{LogInvariant};
 ghost use Rattle.wire.specs.Values.{heardOf};
 ghost use Rattle.wire.specs.Collecting.{collect};
-ghost use Rattle.controller.specs.Controller.{Areas, withRun, withPaused, withWire, withSingle, withParameter, withSpecial, fresh};
-ghost use Rattle.controller.specs.Deeds.{did, raise, moved, startAt, stop, execute, special, write, read, readTo, wroteTo, ended, writing, emptyCollection, asked, answer, ticked, pressed, emptyLog};
-ghost use Rattle.deeds.specs.Values.{onAreas, areas, askedOf, Leaves, LeavesBy};
+ghost use Rattle.controller.specs.Controller.{withWire};
+ghost use Rattle.controller.specs.Deeds.{read, readTo, wroteTo, ended, writing, emptyCollection, asked, answer};
+ghost use Rattle.deeds.specs.Values.{onAreas, areas, askedOf};
 ghost use Rattle.deeds.specs.Sound.{SoundData, Sound};
 use controller::Controller;
 use deeds::Done;
 use formats::Text;
-use lines::Line;
-use log::Log;
-use running::Counter;
-use running::Ran;
-use running::Run;
-use special::Special;
-use variables::Panel;
 use wire::Asked;
 use wire::Data;
 use wire::Heard;
-use wire::Wire;
 
 fn empty_collection(c: Controller) -> Controller
     ensures empty { λ r. ⌜ r ≡ emptyCollection c ⌝ }
