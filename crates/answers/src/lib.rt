@@ -6,15 +6,15 @@ ghost use Prim.Native.Nat.{ℕ, _≤_};
 ghost use lib.ListN.{length};
 ghost use Rattle.formats.specs.Values.{textOf};
 ghost use Rattle.formats.specs.Digits.{errorText};
-ghost use Rattle.formats.specs.Checks.{refused, passed, text};
+ghost use Rattle.formats.specs.Checks.{refused, passed, Ok, text};
 ghost use Rattle.wire.specs.Invariant.{WireInvariant};
 ghost use Rattle.wire.specs.declared.Asked.the-variants.{Read, Write};
 ghost use Rattle.wire.specs.Values.{heardOf};
 ghost use Rattle.wire.specs.Collecting.{collect};
-ghost use Rattle.controller.specs.Controller.{withWire};
+ghost use Rattle.controller.specs.Controller.{mode, withWire};
 ghost use Rattle.controller.specs.Deeds.{read, readTo, wroteTo, ended, writing, emptyCollection, asked, answer};
 ghost use Rattle.deeds.specs.Values.{onAreas, areas, askedOf};
-ghost use Rattle.deeds.specs.Sound.{SoundData, Sound};
+ghost use Rattle.wire.specs.Sound.{SoundData, Sound};
 use controller::Controller;
 use deeds::Done;
 use formats::Text;
@@ -120,7 +120,7 @@ fn answer_write(
     reply: &mut [u8],
 ) -> Done
     requires { ⌜ (length (now program) ≡ 1600) × (length (now saved) ≡ 1600) × (16 ≤ length (now reply))
-        × (k ≤ 216) × SoundData (c .panel .parameter) k what ⌝ }
+        × (k ≤ 216) × SoundData (mode c) (c .panel .parameter) k what ⌝ }
     ensures done { λ r. ⌜ ((l : List ℕ) → onAreas r (areas (now (program .exit)) (now (saved .exit)) l (now (reply .exit))) ≡
         answer (passed (Write k what)) c (areas (now (program .entry)) (now (saved .entry)) l (now (reply .entry)))) ⌝ }
 {
@@ -147,7 +147,7 @@ fn answer_asked(
     reply: &mut [u8],
 ) -> Done
     requires { ⌜ (length (now program) ≡ 1600) × (length (now saved) ≡ 1600) × (16 ≤ length (now reply))
-        × Sound (c .panel .parameter) (passed q) ⌝ }
+        × Sound (mode c) (c .panel .parameter) q ⌝ }
     ensures done { λ r. ⌜ ((l : List ℕ) → onAreas r (areas (now (program .exit)) (now (saved .exit)) l (now (reply .exit))) ≡
         answer (passed q) c (areas (now (program .entry)) (now (saved .entry)) l (now (reply .entry)))) ⌝ }
 {
@@ -166,7 +166,7 @@ pub fn answer(
     reply: &mut [u8],
 ) -> Done
     requires { ⌜ (length (now program) ≡ 1600) × (length (now saved) ≡ 1600) × (16 ≤ length (now reply))
-        × Sound (c .panel .parameter) (askedOf heard) ⌝ }
+        × Ok (Sound (mode c) (c .panel .parameter)) (askedOf heard) ⌝ }
     ensures done { λ r. ⌜ ((l : List ℕ) → onAreas r (areas (now (program .exit)) (now (saved .exit)) l (now (reply .exit))) ≡
         answer (askedOf heard) c (areas (now (program .entry)) (now (saved .entry)) l (now (reply .entry)))) ⌝ }
 {

@@ -1,3 +1,4 @@
 pub mod Checking
 pub mod Calling
 pub mod Outcome
+pub mod Kept

@@ -8,8 +8,8 @@ use mathlib.Core.List.{List}
 use lib.ListN.{length}
 use lib.Dec.{eqb}
 use borrow.Author.Tests.{leb-true}
-use Rattle.formats.specs.Checks.{Res, refused, passed}
-use Rattle.formats.proofs.Checks.{if-case, Ok}
+use Rattle.formats.specs.Checks.{Res, refused, passed, Ok}
+use Rattle.formats.proofs.Checks.{if-case}
 use Rattle.lines.specs.declared.Line.{Line}
 use Rattle.lines.specs.declared.Line.the-variants.{State, For, Next}
 use Rattle.lines.specs.Line.{endMark}
@@ -32,14 +32,15 @@ use Rattle.wire.specs.declared.Asked.the-variants.{Read, Write}
 use Rattle.special.specs.Special.{modeOf, allowed, codeOf}
 use Rattle.wire.specs.Invariant.{WireInvariant}
 use Rattle.wire.proofs.Collecting.{collect-kept, cleared-kept}
-use Rattle.wire.proofs.Commands.{Permitted, DataSound, Sound, asked-sound}
+use Rattle.wire.specs.Sound.{Permitted, SoundData, Sound}
+use Rattle.wire.proofs.Commands.{asked-sound}
 use Rattle.controller.specs.declared.Controller.{Controller}
 use Rattle.controller.specs.Controller.{withRun, withPaused, withTicks, withWire, withSpecial, withEvent, mode, Areas, fresh}
 use Rattle.controller.specs.Deeds.{Did, raise, moved, startAt, stop, execute, special, read, write, readTo, wroteTo, writing, emptyCollection, asked, answer, ticked, pressed, emptyLog, powerUp}
 use Rattle.controller.specs.Variables.{lineOf}
 use Rattle.controller.specs.Deeds as Deeds
 use Rattle.controller.specs.Refusals.{Call, powerOn, byte, tick as tickCall, press, emptying, check}
-use Rattle.controller.specs.Calls.{does, given, changes, changeOf, logged, settled, call}
+use Rattle.controller.specs.Calls.{does, given, differs, changeOf, logged, settled, call}
 use Rattle.controller.specs.Invariant.{Invariant}
 
 -- the state of what was done keeps it; the log is looked at apart
@@ -140,7 +141,7 @@ read-keeps k c i = if-case Invariant (eqb k 212) (λ _. with-event 0 false c i) 
 with-special : (n : ℕ) (c : Controller) → Invariant c → Invariant (withSpecial n c)
 with-special n c i = record { run = i .run; wire = i .wire; log = i .log; pausedRuns = i .pausedRuns; single = i .single }
 
-write-keeps : (k : ℕ) (x : Data) (c : Controller) (a : Areas) → DataSound (mode c) (c .panel .parameter) k x → Invariant c → Keeps (write k x c a)
+write-keeps : (k : ℕ) (x : Data) (c : Controller) (a : Areas) → SoundData (mode c) (c .panel .parameter) k x → Invariant c → Keeps (write k x c a)
 unfolding write
 write-keeps k (WriteLine l) c a p i =
     if-case Keeps (eqb k 200)
@@ -237,7 +238,7 @@ does-keeps emptying c a i = empty-log-keeps c a i
 logged-kept : (k : Call) (c : Controller) (x : Did) → LogInvariant (x .state .log) → LogInvariant (logged k c x .log)
 unfolding logged
 logged-kept k c x l =
-    if-case (λ (g : Logged). LogInvariant (g .log)) (changes k c (x .state))
+    if-case (λ (g : Logged). LogInvariant (g .log)) (differs (given k c .run .outputs) (x .state .run .outputs))
     (λ _. change-kept (x .state .log) (x .areas .log) (changeOf k c (x .state)) l) (λ _. l)
 
 given-invariant : (k : Call) (c : Controller) → Invariant c → Invariant (given k c)

@@ -11,9 +11,9 @@ use lib.ListN.{length, take, drop}
 use lib.Seq.{take-append-seam}
 use lib.Dec.{eqb, leb}
 use borrow.Author.Tests.{eqb-true, eqb-false, leb-false}
-use Rattle.formats.specs.Checks.{if_then_else_, Res, refused, passed, text}
+use Rattle.formats.specs.Checks.{if_then_else_, Res, refused, passed, text, Ok}
 use Rattle.formats.specs.Digits.{errorText}
-use Rattle.formats.proofs.Checks.{if-case, both-true, Ok}
+use Rattle.formats.proofs.Checks.{if-case, both-true}
 use Rattle.lines.specs.declared.Line.{Line}
 use Rattle.lines.specs.declared.Line.the-variants.{State, For, Next}
 use Rattle.lines.specs.Line.{readLine, bytesOf}
@@ -28,7 +28,8 @@ use Rattle.wire.specs.declared.Data.the-variants.{WriteLine, WriteOutputs, Writ
 use Rattle.wire.specs.declared.Asked.{Asked}
 use Rattle.wire.specs.declared.Asked.the-variants.{Read, Write}
 use Rattle.special.specs.Special.{codeOf}
-use Rattle.wire.proofs.Commands.{DataSound, Sound, asked-sound}
+use Rattle.wire.specs.Sound.{SoundData, Sound}
+use Rattle.wire.proofs.Commands.{asked-sound}
 use Rattle.controller.specs.declared.Controller.{Controller}
 use Rattle.controller.specs.Controller.{withSingle, withSpecial, withEvent, mode, Areas}
 use Rattle.controller.specs.Variables.{lineOf, value}
@@ -161,7 +162,7 @@ neither false u e = (refl, e)
 abbrev Keeps : ℕ → Res Asked → Type 0
 Keeps k r = (if writesLine k r then true else (leb k 199 && eqb (specialCode r) 7)) ≡ false
 
-write-keeps : (j : ℕ) (x : Data) (k : ℕ) (c : Controller) (a : Areas) → DataSound (mode c) (c .panel .parameter) j x → length (a .program) ≡ 1600 → k ≤ 200
+write-keeps : (j : ℕ) (x : Data) (k : ℕ) (c : Controller) (a : Areas) → SoundData (mode c) (c .panel .parameter) j x → length (a .program) ≡ 1600 → k ≤ 200
     → Keeps k (passed (Write j x)) → lineIn (write j x c a) k ≡ lineOf c (a .program) k
 unfolding write Variables.lineOf
 write-keeps j (WriteLine l) k c a i len le n = write-elsewhere l j k c a i len (eqb-false k j (neither (eqb k j) _ n .0))

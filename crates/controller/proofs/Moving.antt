@@ -9,8 +9,8 @@ use mathlib.Core.List.{List}
 use mathlib.Core.Option.{none, some}
 use lib.Dec.{eqb}
 use borrow.Author.Tests.{eq-eqb, ne-eqb}
-use Rattle.formats.specs.Checks.{if_then_else_, Res, refused, passed}
-use Rattle.formats.proofs.Checks.{if-case, Ok}
+use Rattle.formats.specs.Checks.{if_then_else_, Res, refused, passed, Ok}
+use Rattle.formats.proofs.Checks.{if-case}
 use Rattle.running.specs.declared.Ran.{Ran}
 use Rattle.running.specs.Running.{start, tick}
 use Rattle.special.specs.declared.Mode as M

@@ -9,14 +9,14 @@ use mathlib.Core.List.{List}
 use lib.ListN.{length}
 use lib.Dec.{leb, eqb}
 use borrow.Author.Tests.{leb-true, eqb-true}
-use Rattle.formats.specs.Checks.{Res, refused, passed, _>>_, _orElse_}
-use Rattle.formats.proofs.Checks.{Ok, ok-guard, both-true}
+use Rattle.formats.specs.Checks.{Res, refused, passed, _>>_, _orElse_, Ok}
+use Rattle.formats.proofs.Checks.{ok-guard, both-true}
 use Rattle.log.specs.Record.{leastArea, mostArea}
 use Rattle.controller.specs.declared.Controller.{Controller}
 use Rattle.controller.specs.Controller.{Areas}
 use Rattle.controller.specs.Refusals.{Call, powerOn, byte, tick, press, emptying, isProgram, isLog, isSameLog, isReply, mayTick, isButton, isDestination, check}
 use Rattle.controller.specs.Effects.{isPowerOn}
-use Rattle.controller.specs.Calls.{does, given, logged, After, accepted, settled, call}
+use Rattle.controller.specs.Calls.{does, given, logged, After, accepted, settled, call, refusedWith}
 
 -- ---- the numbers
 
@@ -109,10 +109,11 @@ log-long c area e =
     let same = eqb-true (length area) (c .log .length) (p .1) in
     (omega (arith, leb-true leastArea (length area) (q .0)), same)
 
--- ---- accepted or refused
+-- a reply area that is accepted has room for the longest reply and its 13
+pub reply-long : (area : List ℕ) → isReply area ≡ true → 16 ≤ length area
+reply-long area e = omega (arith, leb-true 16 (length area) e)
 
-abbrev pub refusedWith : ℕ → Call → Controller → Areas → After
-refusedWith n k c a = record { answer = record { state = given k c; refusal = n; lines = 0; written = 0 }; areas = a }
+-- ---- accepted or refused
 
 -- a call is one or the other
 pub data Settled (k : Call) (c : Controller) (a : Areas) : Type 0 where

@@ -1,9 +1,11 @@
 -- The five calls: checked, done, logged, answered.
 use Prim.Native.Nat.{ℕ}
 use mathlib.Core.Bool.{Bool, not}
+use mathlib.Core.List.{List}
 use lib.Dec.{eqb}
 use Rattle.formats.specs.Checks.{if_then_else_, Res, refused, passed}
 use Rattle.log.specs.declared.Change.{Change}
+use Rattle.log.specs.declared.Log.{Log}
 use Rattle.log.specs.Log.{Logged, addChange}
 use Rattle.wire.specs.declared.Asked.{Asked}
 use Rattle.controller.specs.declared.Controller.{Controller}
@@ -34,8 +36,8 @@ given (press n) c = c
 given emptying c = c
 
 -- 01, 'The log': "A change is a call after which the output word differs. One call makes at most one."
-abbrev pub changes : Call → Controller → Controller → Bool
-changes k before after = not (eqb (given k before .run .outputs) (after .run .outputs))
+abbrev pub differs : ℕ → ℕ → Bool
+differs before word = not (eqb before word)
 
 -- "cause is the line, 254 for command 006, 255 for a write to 203-206"
 abbrev pub cause : Res Asked → ℕ → ℕ
@@ -46,11 +48,14 @@ abbrev pub changeOf : Call → Controller → Controller → Change
 changeOf k before after =
     record { cause = cause (finished k before) (after .run .line); tick = after .ticks; word = after .run .outputs }
 
+-- the log and its area, where the word before the call was `before`
+abbrev pub loggedBy : ℕ → Change → Log → List ℕ → Logged
+loggedBy before change log area =
+    if differs before (change .word) then addChange log area change else record { log = log; area = area }
+
 -- the log and its area after an accepted call that did x
 unfoldable pub logged : Call → Controller → Did → Logged
-logged k c x =
-    if changes k c (x .state) then addChange (x .state .log) (x .areas .log) (changeOf k c (x .state))
-    else record { log = x .state .log; area = x .areas .log }
+logged k c x = loggedBy (given k c .run .outputs) (changeOf k c (x .state)) (x .state .log) (x .areas .log)
 
 -- ---- answered
 
@@ -67,8 +72,14 @@ accepted x l = record {
 
 -- 01, 'Calls': "A refusal returns its number, leaves the state and every lent byte untouched; its counts and lengths are 0. A
 -- refused power-on returns the power-on state with a log length of 0".
+abbrev pub refusing : ℕ → Controller → Answer
+refusing n c = record { state = c; refusal = n; lines = 0; written = 0 }
+
+abbrev pub refusedWith : ℕ → Call → Controller → Areas → After
+refusedWith n k c a = record { answer = refusing n (given k c); areas = a }
+
 abbrev pub settled : Res (Unit {0}) → Call → Controller → Areas → After
-settled (refused n) k c a = record { answer = record { state = given k c; refusal = n; lines = 0; written = 0 }; areas = a }
+settled (refused n) k c a = refusedWith n k c a
 settled (passed ok) k c a = accepted (does k c a) (logged k c (does k c a))
 
 -- A call made with the state c, which power-on does not look at, and the areas a.

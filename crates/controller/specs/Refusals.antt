@@ -24,8 +24,11 @@ abbrev pub isProgram : List ℕ → Bool
 isProgram area = eqb (length area) 1600
 
 -- 031 "log area under 24 or over 65,536 bytes, or not the length given at power-on"
+abbrev pub isLogLength : ℕ → Bool
+isLogLength n = leb leastArea n && leb n mostArea
+
 abbrev pub isLog : List ℕ → Bool
-isLog area = leb leastArea (length area) && leb (length area) mostArea
+isLog area = isLogLength (length area)
 
 abbrev pub isSameLog : Controller → List ℕ → Bool
 isSameLog c area = isLog area && eqb (length area) (c .log .length)

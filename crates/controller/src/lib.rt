@@ -5,14 +5,15 @@ use running::Run;
 use variables::Panel;
 use wire::Wire;
 
+#[repr(C)]
 pub struct Controller {
     pub run: Run,
     pub paused: bool,
     // the tick count
     pub ticks: u32,
-    pub wire: Wire,
     pub panel: Panel,
     pub log: Log,
+    pub wire: Wire,
 }
 
 // What a call returns.

@@ -12,10 +12,10 @@ use Rattle.controller.specs.declared.Controller.{Controller}
 use Rattle.controller.specs.Controller.{Areas, fresh}
 use Rattle.controller.specs.Refusals.{Call, powerOn, byte, tick, press, emptying}
 use Rattle.controller.specs.Effects.{isPowerOn}
-use Rattle.controller.specs.Calls.{call}
+use Rattle.controller.specs.Calls.{call, refusedWith}
 use Rattle.controller.specs.Invariant.{Invariant}
 use Rattle.controller.proofs.Invariant.{fresh-invariant, call-invariant}
-use Rattle.controller.proofs.Refusals.{refusedWith, refused-call, unpowered-refuses}
+use Rattle.controller.proofs.Refusals.{refused-call, unpowered-refuses}
 use Rattle.demands.specs.Histories.{Made, Held, unpowered, outcome, next, after}
 
 -- ---- the invariant

@@ -11,8 +11,8 @@ use Rattle.controller.specs.declared.Controller.{Controller}
 use Rattle.controller.specs.Deeds.{Did}
 use Rattle.controller.specs.Refusals.{Call, powerOn, byte, tick, press, emptying}
 use Rattle.controller.specs.Effects.{isPowerOn}
-use Rattle.controller.specs.Calls.{After, does, given, logged, accepted}
-use Rattle.controller.proofs.Refusals.{Checked, refusedWith, Settled, taken, refusal, every-call-settled}
+use Rattle.controller.specs.Calls.{After, does, given, logged, accepted, refusedWith}
+use Rattle.controller.proofs.Refusals.{Checked, Settled, taken, refusal, every-call-settled}
 use Rattle.demands.specs.Histories.{Made, Held, outcome, isAccepted, isLentProgram, next, HandsOn}
 
 -- what an accepted call did

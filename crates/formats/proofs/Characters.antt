@@ -8,9 +8,9 @@ use lib.ListN.{length, length-map}
 use lib.Dec.{leb, ltb, eqb}
 use native.Mathlib.Omega.{arith}
 use borrow.Author.Tests.{lt-ltb, le-ltb, ltb-true, leb-true, eqb-true}
-use Rattle.formats.specs.Checks.{passed, _>>_, _orElse_, all}
+use Rattle.formats.specs.Checks.{passed, _>>_, _orElse_, all, Ok}
 use Rattle.formats.specs.Digits.{digits, digitChar, digitValue, isDigit, shown, numberIn}
-use Rattle.formats.proofs.Checks.{if-case, both-true, below, Ok, ok-guard}
+use Rattle.formats.proofs.Checks.{if-case, both-true, below, ok-guard}
 use Rattle.formats.proofs.Digits.{isBelow, length-digits, number-below, digits-below, number-digits, digits-number}
 
 -- ---- one character

@@ -1,7 +1,7 @@
 -- Laws of choices and of chains of checks.
 -- Assumes nothing.
 use Prim.Native.Nat.{ℕ, zero, suc, _<_}
-use mathlib.Core.Path.{_≡_, refl}
+use mathlib.Core.Path.{_≡_, refl, sym, ap}
 use mathlib.Core.Bool.{Bool, true, false, _&&_, _||_, false≢true}
 use mathlib.Core.List.{List, [], _∷_, _++_}
 use mathlib.Core.Logic.{_≢_}
@@ -9,7 +9,7 @@ use native.Mathlib.Omega.{arith}
 use native.Mathlib.Nat.{not-suc-le-zero}
 use lib.Dec.{eqb}
 use borrow.Author.Tests.{eqb-true, eqb-false}
-use Rattle.formats.specs.Checks.{if_then_else_, Res, refused, passed, _>>=_, _>>_, _orElse_, all}
+use Rattle.formats.specs.Checks.{if_then_else_, Res, refused, passed, _>>=_, _>>_, _orElse_, all, Ok}
 
 -- ---- choices and tests
 
@@ -17,6 +17,13 @@ use Rattle.formats.specs.Checks.{if_then_else_, Res, refused, passed, _>
 pub if-case {ℓ} : {A : Type ℓ} (P : A → Type 0) (t : Bool) {x y : A} → (t ≡ true → P x) → (t ≡ false → P y) → P (if t then x else y)
 if-case P true f g = f refl
 if-case P false f g = g refl
+
+-- the branch that a test takes
+pub taken : {A : Type 0} (t : Bool) (x y : A) → t ≡ true → x ≡ (if t then x else y)
+taken t x y e = ap (λ u. if u then x else y) (sym e)
+
+pub left : {A : Type 0} (t : Bool) (x y : A) → t ≡ false → y ≡ (if t then x else y)
+left t x y e = ap (λ u. if u then x else y) (sym e)
 
 pub both-true : (a b : Bool) → (a && b) ≡ true → (a ≡ true) × (b ≡ true)
 both-true true b e = (refl, e)
@@ -51,11 +58,6 @@ all-snoc f (y ∷ xs) x e g =
     rw (p .0) (all-snoc f xs x (p .1) g)
 
 -- ---- chains of checks
-
--- what holds of the value, where the check passes
-abbrev pub Ok : {A : Type 0} → (A → Type 0) → Res A → Type 0
-Ok P (refused e) = Unit
-Ok P (passed a) = P a
 
 pub ok-at : {A : Type 0} (P : A → Type 0) {r : Res A} {a : A} → Ok P r → r ≡ passed a → P a
 ok-at P ok e = rw e at ok

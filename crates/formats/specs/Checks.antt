@@ -32,6 +32,11 @@ unfoldable pub _orElse_ : Bool → ℕ → Res (Unit {0})
 true orElse e = passed tt
 false orElse e = refused e
 
+-- what holds of the value, where the check passes
+abbrev pub Ok : {A : Type 0} → (A → Type 0) → Res A → Type 0
+Ok P (refused e) = Unit
+Ok P (passed a) = P a
+
 -- every element passes the test
 abbrev pub all : {A : Type 0} → (A → Bool) → List A → Bool
 all f [] = true

@@ -48,10 +48,6 @@ module _ (j : ℕ) (l : Line) (p : List ℕ) (inside : 8 * j + 8 ≤ length p) w
   front : length (take (8 * j) p) ≡ 8 * j
   front = length-take-le (8 * j) p (omega arith)
 
-  pub length-put : length (putLine j l p) ≡ length p
-  unfolding putLine
-  length-put = simp (length-append, length-drop, front, length-bytes) (omega arith)
-
   -- The line that is stored is found.
   pub put-same : Fits l → lineAt (putLine j l p) j ≡ l
   unfolding lineAt putLine

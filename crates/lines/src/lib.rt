@@ -216,15 +216,29 @@ fn is_next_of(c: u8, l: Line) -> bool
     false
 }
 
+// Line i is a Next of counter c. Its first two bytes are asked first: they decide for nearly every line of a search.
+fn is_next_at(p: &[u8], c: u8, i: usize) -> bool
+    requires { ⌜ (length (now p) ≡ 1600) × (i < 200) ⌝ }
+    ensures test { λ r. ⌜ r ≡ isNextOf c (lineAt (now (p .entry)) i) ⌝ }
+{
+    if p[8 * i] != b'N' {
+        return false;
+    }
+    if p[8 * i + 1] != c {
+        return false;
+    }
+    is_next_of(c, line_at(p, i))
+}
+
 // The first Next of counter c on a line later than k; 200 where there is none.
 pub fn next_after(p: &[u8], c: u8, k: u8) -> u8
     requires { ⌜ (length (now p) ≡ 1600) × (k < 200) ⌝ }
     ensures line { λ r. ⌜ r ≡ nextAfter (now (p .entry)) c k ⌝ }
 {
-    let mut i = k + 1;
+    let mut i = k as usize + 1;
     while i < 200 {
-        if is_next_of(c, line_at(p, i as usize)) {
-            return i;
+        if is_next_at(p, c, i) {
+            return i as u8;
         }
         i += 1;
     }

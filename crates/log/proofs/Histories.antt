@@ -55,9 +55,6 @@ holds-nothing n area le whole =
       gap = λ most. absurd (omega arith);
     }
 
-pub holds-invariant : (cs : List Change) (l : Log) (area : List ℕ) → Holds cs l area → LogInvariant l
-holds-invariant cs l area h = record { room = λ le. omega (arith, h .keptIs) }
-
 module _ (cs : List Change) (l : Log) (area : List ℕ) (c : Change) (h : Holds cs l area) where
   abbrev cs′ : List Change
   cs′ = cs ++ (c ∷ [])

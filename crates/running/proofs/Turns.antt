@@ -4,14 +4,17 @@ use Prim.Native.Nat.{ℕ, zero, suc, _+_, _-_, _≤_, _<_}
 use native.Mathlib.Omega.{arith}
 use mathlib.Core.Path.{_≡_, refl, sym, ap, _∙_}
 use mathlib.Core.Bool.{Bool, true, false}
-use mathlib.Core.List.{List}
+use mathlib.Core.List.{List, [], _∷_}
 use lib.Dec.{leb, eqb}
 use borrow.Author.Tests.{leb-true}
+use types.Run.{OneOf, miss}
+use denote.Enum.Declared.{tagOf}
 use Rattle.formats.proofs.Checks.{if-case, both-true}
 use Rattle.lines.specs.declared.Line.{Line}
 use Rattle.lines.specs.declared.Line.the-variants.{State, For, Next}
 use Rattle.lines.specs.Line.{isCounter}
 use Rattle.lines.specs.Program.{lineAt}
+use Rattle.lines.proofs.Line as L
 use Rattle.lines.proofs.Lines.{Ranged}
 use Rattle.lines.proofs.Places.{line-ranged}
 use Rattle.running.specs.declared.Run.{Run}
@@ -74,24 +77,31 @@ module _ (p : List ℕ) (r : Run) (n : ℕ) (l : Line) (q : ℕ) (s : Step)
 pub all-counted : (p : List ℕ) (r : Run) (n : ℕ) → 400 ≤ n → runDue p 0 n r ≡ runDue p (400 - n) n r
 all-counted p r n le = let z : 400 - n ≡ 0 = omega arith in rw z
 
+-- a line that is no State is counted
+other-counted : (l : Line) → OneOf (1 ∷ 2 ∷ []) (tagOf L.the-type l) → isForOrNext l ≡ true
+other-counted (State o t) h = absurd (miss (1 ∷ 2 ∷ []) 0 tt h)
+other-counted (For c m) h = refl
+other-counted (Next c) h = refl
+
 -- the line that is due when no more may be counted
-module _ (p : List ℕ) (r : Run) (n : ℕ) where
-  pub last-stops : isForOrNext (lineAt p (r .line)) ≡ true → stops 13 n r ≡ runDue p 0 n r
+module _ (p : List ℕ) (r : Run) (n : ℕ) (l : Line) (due : l ≡ lineAt p (r .line)) where
+  pub last-stops : OneOf (1 ∷ 2 ∷ []) (tagOf L.the-type l) → stops 13 n r ≡ runDue p 0 n r
   unfolding runDue
-  last-stops t = rw t
+  last-stops h = let t = ap isForOrNext (sym due) ∙ other-counted l h in rw t
 
-  last : (s : Step) → s ≡ step p r → isForOrNext (lineAt p (r .line)) ≡ false → runDue p 0 n r ≡ follow (s .how) n (s .run) (λ x. rests n x)
-  unfolding runDue
-  last s is t = rw (is, t)
+  module _ {o t : ℕ} (state : l ≡ State o t) (s : Step) (is : s ≡ runLine [] (State o t) r) where
+    last : runDue p 0 n r ≡ follow (s .how) n (s .run) (λ x. rests n x)
+    unfolding runDue step runLine
+    last = let e = sym due ∙ state in rw (e, is)
 
-  pub last-holds : (s : Step) → s ≡ step p r → isForOrNext (lineAt p (r .line)) ≡ false → s .how ≡ Holds → rests n (s .run) ≡ runDue p 0 n r
-  last-holds s is t w = sym (last s is t ∙ simp w)
+    pub last-holds : s .how ≡ Holds → rests n (s .run) ≡ runDue p 0 n r
+    last-holds w = sym (last ∙ simp w)
 
-  pub last-ends : (s : Step) → s ≡ step p r → isForOrNext (lineAt p (r .line)) ≡ false → {e : ℕ} → s .how ≡ Ends e → stops e n (s .run) ≡ runDue p 0 n r
-  last-ends s is t w = sym (last s is t ∙ simp w)
+    pub last-ends : {e : ℕ} → s .how ≡ Ends e → stops e n (s .run) ≡ runDue p 0 n r
+    last-ends w = sym (last ∙ simp w)
 
-  pub last-goes-on : (s : Step) → s ≡ step p r → isForOrNext (lineAt p (r .line)) ≡ false → s .how ≡ GoesOn → rests n (s .run) ≡ runDue p 0 n r
-  last-goes-on s is t w = sym (last s is t ∙ simp w)
+    pub last-goes-on : s .how ≡ GoesOn → rests n (s .run) ≡ runDue p 0 n r
+    last-goes-on w = sym (last ∙ simp w)
 
 -- ---- a tick on which the line falls due
 

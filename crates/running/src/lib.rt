@@ -13,20 +13,22 @@ ghost use Rattle.running.specs.Invariant.{RunInvariant};
 use lines::Line;
 
 // A loop counter: 0 when free, and the line of the For that holds it.
+#[repr(C)]
 pub struct Counter {
     pub count: u16,
     pub line: u8,
 }
 
+#[repr(C)]
 pub struct Run {
     // a program runs (also when it is paused)
     pub on: bool,
     // the line now held, or where the program stopped
     pub line: u8,
-    // the output word: output n is bit n-1
-    pub outputs: u32,
     // the next line falls due on the tick with this number from now
     pub wait: u16,
+    // the output word: output n is bit n-1
+    pub outputs: u32,
     pub counters: [Counter; 4],
 }
 
@@ -204,16 +206,6 @@ impl Run {
         }
     }
 
-    // The line that is due.
-    pub fn step(self, p: &[u8]) -> Step
-        requires { ⌜ (length (now p) ≡ 1600) × (RunInvariant self) ⌝ }
-        ensures step { λ r. ⌜ r ≡ step (now (p .entry)) self ⌝ }
-    {
-        let k = self.line;
-        let line = lines::line_at(p, k as usize);
-        self.run_line(p, line)
-    }
-
     // ---- the lines of one call
 
     // What is due when n lines were run and no more may be: a State line is run; for any other the program stops with event 013.
@@ -223,14 +215,14 @@ impl Run {
     {
         let k = self.line;
         let line = lines::line_at(p, k as usize);
-        if is_for_or_next(line) {
+        let Line::State { outputs, time } = line else {
             return Ran {
                 run: self.stopped(),
                 event: 13,
                 lines: n,
             };
-        }
-        let s = self.run_line(p, line);
+        };
+        let s = self.run_state(outputs, time);
         let run = s.run;
         let how = s.how;
         match how {

@@ -10,12 +10,12 @@ use mathlib.Core.List.{List, map}
 use lib.ListN.{length}
 use lib.Dec.{leb}
 use borrow.Author.Tests.{leb-true}
-use Rattle.formats.specs.Checks.{Res, refused, passed, _>>=_, _>>_, _orElse_, all}
+use Rattle.formats.specs.Checks.{Res, refused, passed, _>>=_, _>>_, _orElse_, all, Ok}
 use Rattle.formats.specs.Digits.{number, digitValue, isDigit, numberIn}
 use Rattle.formats.specs.declared.Number.{Number}
 use Rattle.formats.specs.declared.Number.the-variants.{Is, No}
 use Rattle.formats.specs.Values.{numberOf}
-use Rattle.formats.proofs.Checks.{both-true, Ok, ok-at, ok-passed, ok-guard}
+use Rattle.formats.proofs.Checks.{both-true, ok-at, ok-passed, ok-guard}
 use Rattle.formats.proofs.Answers.{number-fits}
 use Rattle.lines.specs.Line.{isCounter, part}
 use Rattle.lines.specs.declared.Line.{Line}

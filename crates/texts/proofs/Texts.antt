@@ -10,9 +10,9 @@ use lib.Seq.{drop-drop, drop-cons, drop-length, take-at, drop-at, take-all}
 use lib.Dec.{eqb, leb, ltb}
 use native.Mathlib.Omega.{arith}
 use borrow.Author.Tests.{eqb-true, ltb-true, leb-true}
-use Rattle.formats.specs.Checks.{Res, refused, passed, _>>=_, _>>_, _orElse_, text}
+use Rattle.formats.specs.Checks.{Res, refused, passed, _>>=_, _>>_, _orElse_, text, Ok}
 use Rattle.formats.specs.Digits.{shown, numberIn}
-use Rattle.formats.proofs.Checks.{if-case, both-true, Ok, ok-bind, ok-guard}
+use Rattle.formats.proofs.Checks.{if-case, both-true, ok-bind, ok-guard}
 use Rattle.formats.proofs.Characters.{length-shown, shown-back, read-shows, read-fits}
 use Rattle.lines.specs.declared.Line.{Line}
 use Rattle.lines.specs.declared.Line.the-variants.{State, For, Next}

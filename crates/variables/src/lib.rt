@@ -13,6 +13,7 @@ use lines::Line;
 use running::Run;
 
 // The variables that stand beside the program, the run and the wire.
+#[repr(C)]
 pub struct Panel {
     // 200, the single command, in the eight bytes of a line
     pub single: [u8; 8],

@@ -9,9 +9,9 @@ use mathlib.Core.List.{List, _∷_, _++_}
 use lib.ListN.{length, drop, length-drop}
 use lib.Dec.{eqb, leb}
 use borrow.Author.Tests.{eq-eqb, ne-eqb, le-leb, leb-true, not-true}
-use Rattle.formats.specs.Checks.{passed, _>>=_, _>>_, _orElse_, text}
+use Rattle.formats.specs.Checks.{passed, _>>=_, _>>_, _orElse_, text, Ok}
 use Rattle.formats.specs.Digits.{digits, digitChar, shown, numberIn}
-use Rattle.formats.proofs.Checks.{if-case, both-true, below, Ok, ok-passed, ok-guard}
+use Rattle.formats.proofs.Checks.{if-case, both-true, below, ok-passed, ok-guard}
 use Rattle.formats.proofs.Characters.{shown-back}
 use Rattle.lines.specs.Line.{part}
 use Rattle.wire.specs.Command.{char, isRead, isWrite, isStepwise, hasAddress, inFormat, rest, addressIn, isWritable}

@@ -7,9 +7,9 @@ use mathlib.Core.Bool.{true, false}
 use mathlib.Core.List.{List, [], _∷_, _++_, append-nil}
 use lib.Dec.{eqb, leb}
 use borrow.Author.Tests.{le-leb, leb-true}
-use Rattle.formats.specs.Checks.{passed, _>>=_, _>>_, _orElse_, text}
+use Rattle.formats.specs.Checks.{passed, _>>=_, _>>_, _orElse_, text, Ok}
 use Rattle.formats.specs.Digits.{hIn, dIn}
-use Rattle.formats.proofs.Checks.{if-case, Ok, ok-bind, ok-passed, ok-guard}
+use Rattle.formats.proofs.Checks.{if-case, ok-bind, ok-passed, ok-guard}
 use Rattle.lines.specs.declared.Line.{Line}
 use Rattle.texts.specs.Text.{lineText, lineIn}
 use Rattle.lines.proofs.Lines.{Fits}
@@ -26,43 +26,27 @@ use Rattle.wire.specs.Collecting.{sent}
 use Rattle.special.specs.Special.{allowed, specialOf, inReach}
 use Rattle.wire.specs.Command.{isRead, rest, isWritable, isOpen, specialIn, dataIn, readCommand, writeCommand, commandIn, command}
 use Rattle.wire.specs.Naming.{Names}
+use Rattle.wire.specs.Sound.{SoundData, Sound}
 use Rattle.wire.specs.Invariant.{WireInvariant}
 use Rattle.wire.proofs.Addresses.{outputs-from, found, address-inside}
 
 -- ---- what a command that passes the checks can ask for
 
--- it may be given in this mode, and the parameter is in its reach
-pub record Permitted (mode : Mode) (parameter : ℕ) (s : Special) : Type 0 where
-  pub may : allowed s mode ≡ true
-  pub reaches : inReach s parameter ≡ true
-
--- a line goes to 000-200, outputs go to 203-206, and a special command is permitted
-abbrev pub DataSound : Mode → ℕ → ℕ → Data → Type 0
-DataSound mode parameter k (WriteLine l) = k ≤ 200
-DataSound mode parameter k (WriteOutputs x) = (203 ≤ k) × (k ≤ 206)
-DataSound mode parameter k (WriteParameter v) = Unit {0}
-DataSound mode parameter k (WriteSpecial s) = Permitted mode parameter s
-
--- the address is one of the 217
-abbrev pub Sound : Mode → ℕ → Asked → Type 0
-Sound mode parameter (Read k) = k ≤ 216
-Sound mode parameter (Write k x) = (k ≤ 216) × DataSound mode parameter k x
-
 module _ (mode : Mode) (parameter : ℕ) where
-  special-sound : (k : ℕ) (cs : List ℕ) → Ok (DataSound mode parameter k) (specialIn mode parameter cs)
+  special-sound : (k : ℕ) (cs : List ℕ) → Ok (SoundData mode parameter k) (specialIn mode parameter cs)
   unfolding specialIn
   special-sound k cs =
-      ok-passed (DataSound mode parameter k) (dIn cs) _ λ n _. ok-passed (DataSound mode parameter k) (specialOf n) _ λ s _.
-      ok-guard (DataSound mode parameter k) (allowed s mode) 5 _ λ e.
-      ok-guard (DataSound mode parameter k) (inReach s parameter) 4 _ λ f. record { may = e; reaches = f }
+      ok-passed (SoundData mode parameter k) (dIn cs) _ λ n _. ok-passed (SoundData mode parameter k) (specialOf n) _ λ s _.
+      ok-guard (SoundData mode parameter k) (allowed s mode) 5 _ λ e.
+      ok-guard (SoundData mode parameter k) (inReach s parameter) 4 _ λ f. record { may = e; reaches = f }
 
-  data-sound : (k : ℕ) (cs : List ℕ) → isWritable k ≡ true → Ok (DataSound mode parameter k) (dataIn mode parameter k cs)
+  data-sound : (k : ℕ) (cs : List ℕ) → isWritable k ≡ true → Ok (SoundData mode parameter k) (dataIn mode parameter k cs)
   unfolding dataIn
   data-sound k cs can =
-      if-case (Ok (DataSound mode parameter k)) (leb k 200) (λ e. ok-passed (DataSound mode parameter k) (lineIn cs) _ λ l _. leb-true k 200 e) λ f.
-      if-case (Ok (DataSound mode parameter k)) (leb k 206)
-      (λ e. ok-passed (DataSound mode parameter k) (hIn cs) _ λ x _. (outputs-from k can f (leb-true k 206 e), leb-true k 206 e)) λ _.
-      if-case (Ok (DataSound mode parameter k)) (eqb k 209) (λ _. ok-passed (DataSound mode parameter k) (dIn cs) _ λ v _. tt) λ _.
+      if-case (Ok (SoundData mode parameter k)) (leb k 200) (λ e. ok-passed (SoundData mode parameter k) (lineIn cs) _ λ l _. leb-true k 200 e) λ f.
+      if-case (Ok (SoundData mode parameter k)) (leb k 206)
+      (λ e. ok-passed (SoundData mode parameter k) (hIn cs) _ λ x _. (outputs-from k can f (leb-true k 206 e), leb-true k 206 e)) λ _.
+      if-case (Ok (SoundData mode parameter k)) (eqb k 209) (λ _. ok-passed (SoundData mode parameter k) (dIn cs) _ λ v _. tt) λ _.
       special-sound k cs
 
   -- Every command that passes the checks is sound.
@@ -75,7 +59,7 @@ module _ (mode : Mode) (parameter : ℕ) where
       (λ _. ok-bind P (λ k. k ≤ 216) _ _ (address-inside (w .nextread) (sent w) (i .nextRead)) λ k le. ok-guard P _ 2 _ λ _. le) λ _.
       ok-bind P (λ k. k ≤ 216) _ _ (address-inside (w .nextwrite) (sent w) (i .nextWrite)) λ k le.
       ok-guard P (isWritable k) 4 _ λ can. ok-guard P (isOpen mode k) 5 _ λ _.
-      ok-bind P (DataSound mode parameter k) (dataIn mode parameter k (rest (sent w))) _ (data-sound k (rest (sent w)) can) λ x h. (le, h)
+      ok-bind P (SoundData mode parameter k) (dataIn mode parameter k (rest (sent w))) _ (data-sound k (rest (sent w)) can) λ x h. (le, h)
 
 -- ---- commands that name an address in any of the three ways
 

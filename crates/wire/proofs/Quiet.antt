@@ -8,9 +8,9 @@ use mathlib.Core.Bool.{Bool, true, false, _||_}
 use mathlib.Core.List.{List}
 use lib.Dec.{eqb}
 use borrow.Author.Tests.{eqb-true}
-use Rattle.formats.specs.Checks.{passed, _>>=_}
+use Rattle.formats.specs.Checks.{passed, _>>=_, Ok}
 use Rattle.formats.specs.Digits.{dIn}
-use Rattle.formats.proofs.Checks.{if-case, either-true, Ok, ok-bind, ok-passed, ok-guard}
+use Rattle.formats.proofs.Checks.{if-case, either-true, ok-bind, ok-passed, ok-guard}
 use Rattle.wire.specs.declared.Wire.{Wire}
 use Rattle.special.specs.declared.Mode as M
 use Rattle.special.specs.declared.Mode.{Mode}

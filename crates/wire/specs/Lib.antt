@@ -3,3 +3,4 @@ pub mod Command
 pub mod Values
 pub mod Naming
 pub mod Invariant
+pub mod Sound

@@ -20,6 +20,7 @@ use special::Special;
 use texts::Parsed;
 
 // What is collected, and where each direction stands.
+#[repr(C)]
 pub struct Wire {
     // the first `len` of these are the characters kept, as received
     pub chars: [u8; 32],

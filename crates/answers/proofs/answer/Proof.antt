@@ -11,7 +11,7 @@ enum-known-heard : tie.Need-enum-known-heard
 enum-known-heard c = search needs
 
 answer-asked-requires : tie.Need-answer-asked-requires
-answer-asked-requires c κs = (search needs, search needs, search needs, sound-heard _ _ (c .before .before .before .before .heard .given .1) (c .before .before .before .before .before .before .before .before .before .pre .3))
+answer-asked-requires c κs = (search needs, search needs, search needs, sound-heard _ _ _ (c .before .before .before .before .heard .given .1) (c .before .before .before .before .before .before .before .before .before .pre .3))
 
 enum-known-heard-2 : tie.Need-enum-known-heard-2
 enum-known-heard-2 c = search needs

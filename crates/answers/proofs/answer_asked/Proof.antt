@@ -11,14 +11,14 @@ enum-known-q : tie.Need-enum-known-q
 enum-known-q c = search needs
 
 answer-read-requires : tie.Need-answer-read-requires
-answer-read-requires c κs = (search needs, search needs, sound-read _ _ (c .before .before .before .q .given .1) (c .before .before .before .before .before .before .before .before .pre .3))
+answer-read-requires c κs = (search needs, search needs, sound-read _ _ _ (c .before .before .before .q .given .1) (c .before .before .before .before .before .before .before .before .pre .3))
 
 enum-known-q-2 : tie.Need-enum-known-q-2
 enum-known-q-2 c = search needs
 
 answer-write-requires : tie.Need-answer-write-requires
 answer-write-requires c κs =
-    let h = sound-write _ _ (c .before .before .before .before .q2 .given .1) (c .before .before .before .before .before .before .before .before .before .pre .3) in
+    let h = sound-write _ _ _ (c .before .before .before .before .q2 .given .1) (c .before .before .before .before .before .before .before .before .before .pre .3) in
     (search needs, search needs, search needs, h .0, h .1)
 
 same-length : tie.Need-same-length

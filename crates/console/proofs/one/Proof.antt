@@ -3,7 +3,7 @@
 use mathlib.Core.List.{[]}
 use Rattle.controller.specs.Refusals as Calls
 use Rattle.deeds.specs.Values.{areas}
-use Rattle.console.proofs.Kept.{call-kept}
+use Rattle.calls.proofs.Kept.{call-kept}
 use borrow.Author.Needs.{needs}
 use Rattle.console.proofs.one.Statement.{statement}
 use Rattle.console.proofs.one.Tie as tie

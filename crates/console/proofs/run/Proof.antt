@@ -1,6 +1,6 @@
 -- `console::run` is safe: power-on gives the invariant that the calls require.
 -- Assumes nothing.
-use Rattle.console.proofs.Kept.{power-on-gives}
+use Rattle.calls.proofs.Kept.{power-on-gives}
 use borrow.Author.Needs.{needs}
 use Rattle.console.proofs.run.Statement.{statement}
 use Rattle.console.proofs.run.Tie as tie

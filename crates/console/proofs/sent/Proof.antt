@@ -2,7 +2,7 @@
 -- Assumes nothing.
 use Rattle.controller.specs.Refusals as Calls
 use Rattle.deeds.specs.Values.{areas}
-use Rattle.console.proofs.Kept.{call-kept}
+use Rattle.calls.proofs.Kept.{call-kept}
 use borrow.Author.Needs.{needs}
 use Rattle.console.proofs.sent.Statement.{statement}
 use Rattle.console.proofs.sent.Tie as tie

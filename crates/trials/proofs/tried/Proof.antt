@@ -3,7 +3,7 @@
 use mathlib.Core.List.{[]}
 use Rattle.controller.specs.Refusals as Calls
 use Rattle.deeds.specs.Values.{areas}
-use Rattle.console.proofs.Kept.{call-kept, power-on-gives}
+use Rattle.calls.proofs.Kept.{call-kept, power-on-gives}
 use borrow.Author.Needs.{needs}
 use Rattle.trials.proofs.tried.Statement.{statement}
 use Rattle.trials.proofs.tried.Tie as tie

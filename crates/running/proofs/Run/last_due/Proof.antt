@@ -1,9 +1,7 @@
--- `running::Run::last_due` meets its contract: by the kind of line, and by what it led to.
+-- `running::Run::last_due` meets its contract: by the kind of line, and by what a State line led to.
 -- Assumes nothing.
-use mathlib.Core.Path.{sym, ap, _∙_}
 use borrow.Author.Needs.{needs}
 use Rattle.running.proofs.Turns.{last-stops, last-holds, last-ends, last-goes-on}
-use Rattle.running.specs.Running.{isForOrNext}
 use Rattle.running.proofs.Run.last_due.Statement.{statement}
 use Rattle.running.proofs.Run.last_due.Tie as tie
 
@@ -13,17 +11,17 @@ cast-line-at c = search needs
 line-at-requires : tie.Need-line-at-requires
 line-at-requires c κs = search needs
 
-is-for-or-next-requires : tie.Need-is-for-or-next-requires
-is-for-or-next-requires c κs = search needs
+enum-known-line : tie.Need-enum-known-line
+enum-known-line c = search needs
 
 stopped-requires : tie.Need-stopped-requires
 stopped-requires c κs = search needs
 
 returns : tie.Need-returns
-returns c = simp (c .stopped .ensures) (last-stops _ _ _ (ap isForOrNext (sym (c .before .before .before .line-at .ensures)) ∙ sym (c .before .before .is-for-or-next .ensures) ∙ c .before .if1 .taken))
+returns c = simp (c .stopped .ensures) (last-stops _ _ _ _ (c .before .before .line-at .ensures) (c .before .match .keys2))
 
-run-line-requires : tie.Need-run-line-requires
-run-line-requires c κs = search needs
+run-state-requires : tie.Need-run-state-requires
+run-state-requires c κs = search needs
 
 enum-told : tie.Need-enum-told
 enum-told c = search needs
@@ -38,13 +36,13 @@ enum-told-2 : tie.Need-enum-told-2
 enum-told-2 c = search needs
 
 returns-2 : tie.Need-returns-2
-returns-2 c = last-holds _ _ _ _ (c .before .before .before .run-line .ensures) (ap isForOrNext (sym (c .before .before .before .before .before .before .line-at .ensures)) ∙ sym (c .before .before .before .before .before .is-for-or-next .ensures) ∙ c .before .before .before .before .if1 .left) (c .enum-told .given .1)
+returns-2 c = last-holds _ _ _ _ (c .before .before .before .before .before .before .before .line-at .ensures) (c .before .before .before .before .before .line .given .1) _ (c .before .before .before .run-state .ensures) (c .enum-told .given .1)
 
 returns-3 : tie.Need-returns-3
-returns-3 c = simp (c .stopped2 .ensures) (last-ends _ _ _ _ (c .before .before .before .before .before .run-line .ensures) (ap isForOrNext (sym (c .before .before .before .before .before .before .before .before .line-at .ensures)) ∙ sym (c .before .before .before .before .before .before .before .is-for-or-next .ensures) ∙ c .before .before .before .before .before .before .if1 .left) (c .before .before .how .given .1))
+returns-3 c = simp (c .stopped2 .ensures) (last-ends _ _ _ _ (c .before .before .before .before .before .before .before .before .before .line-at .ensures) (c .before .before .before .before .before .before .before .line .given .1) _ (c .before .before .before .before .before .run-state .ensures) (c .before .before .how .given .1))
 
 returns-4 : tie.Need-returns-4
-returns-4 c = last-goes-on _ _ _ _ (c .before .before .before .run-line .ensures) (ap isForOrNext (sym (c .before .before .before .before .before .before .line-at .ensures)) ∙ sym (c .before .before .before .before .before .is-for-or-next .ensures) ∙ c .before .before .before .before .if1 .left) (c .enum-told2 .given .1)
+returns-4 c = last-goes-on _ _ _ _ (c .before .before .before .before .before .before .before .line-at .ensures) (c .before .before .before .before .before .line .given .1) _ (c .before .before .before .run-state .ensures) (c .enum-told2 .given .1)
 
 pub last-due-spec : {M : Type 1} → statement M
 last-due-spec =
@@ -52,10 +50,10 @@ last-due-spec =
     (tie.spec
     cast-line-at
     line-at-requires
-    is-for-or-next-requires
+    enum-known-line
     stopped-requires
     returns
-    run-line-requires
+    run-state-requires
     enum-told
     enum-known-how
     stopped-requires-2

@@ -1,0 +1,83 @@
+# common.sh: what host/build and host/test share: where things are, and how a C program is compiled, linked and run.
+# Programs are x86-64. On an Arm machine the toolchain's own emulator runs them. Sourced by bash.
+
+host=$(CDPATH='' cd -- "$(dirname -- "${BASH_SOURCE[0]}")" && pwd)
+top=$(dirname "$host")
+out=$top/target/host
+archive=$top/target/staticlib/libnizhalepu.a
+machine=$(uname -m)
+damages=10 # the errors that independent/ can be built with
+
+fail() {
+    echo "host/$(basename "$0"): $*" >&2
+    exit 1
+}
+
+# install_packages PACKAGE...: from Debian's packages, as root.
+install_packages() {
+    local as=()
+    command -v apt-get >/dev/null || fail "there is no apt-get here; install by hand: $*"
+    if [ "$(id -u)" != 0 ]; then
+        command -v sudo >/dev/null || fail "not root and no sudo; install by hand: $*"
+        as=(sudo)
+    fi
+    "${as[@]}" apt-get update || fail "apt-get update failed; wanted: $*"
+    "${as[@]}" env DEBIAN_FRONTEND=noninteractive apt-get install -y --no-install-recommends "$@" ||
+        fail "apt-get cannot install: $*"
+}
+
+# The compiler, the linker and the C headers. clang brings the headers of the machine it runs on; on Arm those of x86-64 are a
+# package of their own.
+find_tools() {
+    local missing=()
+    headers=()
+    command -v clang >/dev/null || missing+=(clang)
+    command -v ld.lld >/dev/null || missing+=(lld)
+    case $machine in
+        x86_64)
+            [ -e /usr/include/stdio.h ] || missing+=(libc6-dev) ;;
+        aarch64)
+            headers=(-isystem /usr/x86_64-linux-gnu/include)
+            [ -e /usr/x86_64-linux-gnu/include/stdio.h ] || missing+=(libc6-dev-amd64-cross) ;;
+        *)
+            fail "no way to run x86-64 programs on $machine: the toolchain has an emulator for aarch64 alone" ;;
+    esac
+    [ ${#missing[@]} = 0 ] || install_packages "${missing[@]}"
+}
+
+# The toolchain's folder: the guide that `rt doc` names stands one folder down in it.
+find_kit() {
+    local guide
+    guide=$(rt doc) || fail "'rt doc' fails: is the toolchain installed?"
+    kit=$(dirname "$(dirname "$guide")")
+    lib=$kit/toolchain/lib
+    [ -e "$lib/Scrt1.o" ] || fail "no C start files in $lib"
+    emulator=$kit/on/aarch64/toolchain
+    [ "$machine" = x86_64 ] || [ -x "$emulator/bin/qemu-x86_64" ] || fail "no emulator in $emulator/bin"
+}
+
+# compile SOURCE OBJECT [FLAG...]
+compile() {
+    mkdir -p "$(dirname "$2")" || fail "cannot make the folder of $2"
+    clang --target=x86_64-linux-gnu "${headers[@]}" -std=c11 -O3 -fPIE -Wall -Wextra -Wpedantic \
+        -I "$host" -I "$top/independent" "${@:3}" -c "$1" -o "$2" || fail "cannot compile $1"
+}
+
+# link_program NAME OBJECT...: the program target/host/NAME from the objects and the library, with the toolchain's own C library.
+# On Arm target/host/NAME is a script that runs the program under the emulator.
+link_program() {
+    local name=$1 elf=$out/$1
+    [ "$machine" = x86_64 ] || elf=$out/x86-64/$1
+    mkdir -p "$(dirname "$out/$name")" "$(dirname "$elf")" || fail "cannot make the folders of $name"
+    ld.lld -pie -dynamic-linker /lib64/ld-linux-x86-64.so.2 -o "$elf" "$lib/Scrt1.o" "$lib/crti.o" "$lib/crtbeginS.o" \
+        "${@:2}" "$archive" "$lib/libc.so.6" "$lib/libc_nonshared.a" "$lib/libgcc.a" "$lib/crtendS.o" "$lib/crtn.o" ||
+        fail "cannot link $name"
+    [ "$machine" = x86_64 ] || wrap "$elf" "$out/$name"
+}
+
+# wrap ELF SCRIPT
+wrap() {
+    printf '#!/usr/bin/env bash\nexec %q %q --library-path %q %q "$@"\n' \
+        "$emulator/bin/qemu-x86_64" "$emulator/lib/ld-linux-x86-64.so.2" "$emulator/lib" "$1" >"$2" || fail "cannot write $2"
+    chmod +x "$2" || fail "cannot make $2 a program"
+}

@@ -1,0 +1,99 @@
+/* calls.c: random calls on both boxes, in episodes. */
+#ifndef _GNU_SOURCE
+#define _GNU_SOURCE
+#endif
+#include "clock.h"
+#include "compare.h"
+#include "maker.h"
+#include "shrink.h"
+#include "statistics.h"
+
+#include <inttypes.h>
+#include <stdio.h>
+#include <unistd.h>
+
+enum { ENOUGH = 1000000, SHRINK_SECONDS = 20 };
+
+struct calls {
+    uint64_t calls;
+    uint64_t seed;
+    struct statistics statistics;
+    uint64_t start, shown; /* in nanoseconds of the clock */
+    bool terminal;
+};
+
+static void show_progress(struct calls *calls)
+{
+    uint64_t done = calls->statistics.calls;
+    if (!calls->terminal || done % 1024 != 0) return;
+    uint64_t now = clock_nanoseconds();
+    if (now - calls->shown < 1000000000u) return;
+    calls->shown = now;
+    fprintf(stderr, "\r%" PRIu64 " of %" PRIu64 " calls ", done, calls->calls);
+}
+
+static void report_difference(struct calls *calls, struct both *both, struct steps *history, uint64_t sub_seed)
+{
+    if (calls->terminal) fputc('\n', stderr);
+    printf("A DIFFERENCE in call %" PRIu64 " of seed %" PRIu64 " (episode %" PRIu64 ", sub-seed %" PRIu64 ", %zu steps):\n",
+           calls->statistics.calls + 1, calls->seed, calls->statistics.episodes, sub_seed, history->count);
+    both_print_difference(both);
+    if (shrink(both, history, SHRINK_SECONDS))
+        printf("The shortest history found, %zu steps from areas of zeros (the log has room for %zu bytes):\n", history->count,
+               both->room[LOG]);
+    else
+        puts("The same steps made again show no difference: a box keeps something outside its state. All steps:");
+    steps_print(history);
+    puts("After the last step:");
+    both_print_difference(both);
+    printf("To see it again: compare --calls %" PRIu64 " --seed %" PRIu64 "\n", calls->calls, calls->seed);
+}
+
+/* One episode; false if it ended in a difference. */
+static bool episode(struct calls *calls, struct maker *maker, uint64_t sub_seed)
+{
+    struct both both;
+    struct steps history = {0};
+    struct statistics *statistics = &calls->statistics;
+    bool equal = true;
+    size_t length = episode_begin(maker, &both, sub_seed);
+    uint64_t end = statistics->calls + length;
+    if (end > calls->calls) end = calls->calls;
+    statistics_begin(statistics);
+    while (equal && statistics->calls < end) {
+        const struct step *step = episode_next(maker);
+        steps_add(&history, step);
+        equal = both_do(&both, step);
+        if (equal) statistics_count(statistics, step, &both);
+        show_progress(calls);
+    }
+    if (!equal) report_difference(calls, &both, &history, sub_seed);
+    steps_free(&history);
+    both_free(&both);
+    return equal;
+}
+
+static int finish(struct calls *calls)
+{
+    double seconds = (double)(clock_nanoseconds() - calls->start) / 1e9;
+    if (calls->terminal) fputc('\n', stderr);
+    printf("%" PRIu64 " calls on both boxes in %.1f s: equal in every return value and in every byte of every area.\n",
+           calls->statistics.calls, seconds);
+    bool met = statistics_print(&calls->statistics);
+    if (met || calls->calls < ENOUGH) return 0;
+    puts("\nNEVER MET: a class above shows 0 (or not all addresses), so this run has not shown what it claims.");
+    return 1;
+}
+
+int compare_calls(uint64_t calls, uint64_t seed)
+{
+    struct calls run = {.calls = calls, .seed = seed, .start = clock_nanoseconds(), .terminal = isatty(STDERR_FILENO) == 1};
+    struct chance seeds = {seed};
+    struct maker maker = {0};
+    bool equal = true;
+    run.shown = run.start;
+    printf("seed %" PRIu64 "\n", seed);
+    while (equal && run.statistics.calls < calls) equal = episode(&run, &maker, chance_next(&seeds));
+    steps_free(&maker.row);
+    return equal ? finish(&run) : 1;
+}

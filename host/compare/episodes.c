@@ -1,0 +1,133 @@
+#include "maker.h"
+
+/* Small logs, so that gaps come soon; now and then a large one with room for wrong lengths beyond 65,536. */
+static void choose_log(struct maker *maker, bool *large)
+{
+    static const uint32_t lengths[] = {24, 25, 35, 36, 47, 48, 60, 100, 1000};
+    struct chance *chance = &maker->chance;
+    *large = chance_one_in(chance, 60);
+    if (*large) {
+        maker->log = chance_one_in(chance, 2) ? 65536 : chance_between(chance, 24, 65536);
+        maker->room = 70000;
+        return;
+    }
+    if (chance_one_in(chance, 3))
+        maker->log = chance_between(chance, 24, chance_one_in(chance, 4) ? 2000 : 150);
+    else
+        maker->log = lengths[chance_below(chance, 9)];
+    maker->room = maker->log + chance_between(chance, 1, 80);
+}
+
+static size_t choose_calls(struct chance *chance, bool large)
+{
+    uint32_t luck = chance_below(chance, 1000);
+    if (luck < 3 && !large) return chance_between(chance, 10000, 100000);
+    if (luck < 100) return chance_between(chance, 2000, 10000);
+    if (luck < 500) return chance_between(chance, 300, 2000);
+    return chance_between(chance, 20, 300);
+}
+
+/* Lines stand behind the 1,600 bytes that are lent too, to be found by a box that looks there. */
+static void fill_areas(struct maker *maker)
+{
+    struct chance *chance = &maker->chance;
+    if (!chance_one_in(chance, 3)) alter_whole(maker, PROGRAM, chance_one_in(chance, 3) ? NOISE : LINES);
+    switch (chance_below(chance, 4)) {
+    case 0: /* zeros, as they are */
+        break;
+    case 1:
+        alter_whole(maker, SAVED, NOISE);
+        break;
+    default:
+        alter_whole(maker, SAVED, LINES);
+        if (chance_one_in(chance, 2))
+            for (unsigned n = 0; n < 20; n++) {
+                uint8_t line[LINE_BYTES];
+                line_damaged(line, chance);
+                alter_line(maker, SAVED, chance_below(chance, 200), line);
+            }
+        break;
+    }
+    if (chance_one_in(chance, 2)) alter_whole(maker, LOG, NOISE);
+    if (chance_one_in(chance, 2)) alter_whole(maker, DESTINATION, NOISE);
+    if (chance_one_in(chance, 2)) alter_whole(maker, REPLY, NOISE);
+}
+
+size_t episode_begin(struct maker *maker, struct both *both, uint64_t seed)
+{
+    bool large;
+    maker->chance.state = seed;
+    maker->both = both;
+    maker->row.count = 0;
+    maker->next = 0;
+    struct chance *chance = &maker->chance;
+    maker->near = chance_below(chance, 200);
+    choose_log(maker, &large);
+    both_make(both, maker->room, chance_below(chance, 8));
+    fill_areas(maker);
+    if (chance_one_in(chance, large ? 3 : 12))
+        make_refused_power_on(maker);
+    else
+        make_power_on(maker);
+    size_t calls = choose_calls(chance, large);
+    if (large && chance_one_in(chance, 2)) {
+        run_fill(maker);
+        calls += maker->log / 12;
+    }
+    return calls;
+}
+
+/* What may come at any time. */
+static void anything(struct maker *maker)
+{
+    struct chance *chance = &maker->chance;
+    uint32_t luck = chance_below(chance, 1000);
+    if (luck < 400)
+        say_any(maker);
+    else if (luck < 440)
+        say_walk(maker);
+    else if (luck < 550)
+        say_special(maker);
+    else if (luck < 600)
+        say_noise(maker);
+    else if (luck < 680)
+        make_ticks(maker, chance_between(chance, 1, chance_one_in(chance, 10) ? 200 : 6));
+    else if (luck < 760)
+        make_press(maker, chance_between(chance, 1, 2));
+    else if (luck < 860)
+        make_empty(maker);
+    else if (luck < 960)
+        alter_somewhere(maker);
+    else if (luck < 985)
+        make_power_on(maker);
+    else if (luck < 994)
+        make_refused_power_on(maker);
+    else
+        run_fill(maker);
+}
+
+/* The record tells what makes sense next: a program that runs is to run for some while, a stopped box is to be started. */
+static void script(struct maker *maker)
+{
+    struct chance *chance = &maker->chance;
+    if (maker->both->record->run.on) {
+        if (chance_one_in(chance, 3))
+            anything(maker);
+        else
+            run_on(maker);
+    } else if (chance_one_in(chance, 4)) {
+        run_recipe(maker);
+    } else {
+        anything(maker);
+    }
+}
+
+const struct step *episode_next(struct maker *maker)
+{
+    if (maker->next == maker->row.count) {
+        maker->next = 0;
+        maker->row.count = 0;
+        while (maker->row.count == 0) script(maker);
+    }
+    return &maker->row.step[maker->next++];
+}

@@ -1,0 +1,27 @@
+/* line.h: the lines of a program, as the eight bytes of an area and as the characters of the wire. */
+#ifndef COMPARE_LINE_H
+#define COMPARE_LINE_H
+
+#include "chance.h"
+
+#include <stdint.h>
+
+enum { LINE_BYTES = 8, LINE_TEXT = 16 }; /* the longest text is 15 characters, and a zero ends it */
+
+/* Outputs that are often those that stand already, or nearly. */
+uint32_t line_outputs(struct chance *chance);
+
+void line_state(uint8_t line[LINE_BYTES], uint32_t outputs, unsigned time);
+void line_for(uint8_t line[LINE_BYTES], unsigned counter, unsigned count);
+void line_next(uint8_t line[LINE_BYTES], unsigned counter);
+
+/* A random valid line with small times and counts, such that a program of them gets somewhere. */
+void line_any(uint8_t line[LINE_BYTES], struct chance *chance);
+
+/* A line that is none of the three, though it looks like one. */
+void line_damaged(uint8_t line[LINE_BYTES], struct chance *chance);
+
+/* The wire form of a line that begins with 53, 46 or 4E; for another the text is empty. */
+void line_text(char text[LINE_TEXT], const uint8_t line[LINE_BYTES]);
+
+#endif

@@ -1,0 +1,64 @@
+#include "clock.h"
+#include "compare.h"
+
+#include <stdbool.h>
+#include <stdio.h>
+#include <string.h>
+#include <time.h>
+
+enum { BAD_USAGE = 2, USUAL_CALLS = 10000000 };
+
+static const char usage[] =
+    "compare [--calls N] [--seed S]  random calls on the proved box and on the independent one: every return value and\n"
+    "                                every byte of every area compared after every call (N ten million if not given,\n"
+    "                                S from the clock); a difference prints a short history that shows it\n"
+    "compare speed                   nanoseconds per call of both, on the same calls\n"
+    "compare stack                   bytes of stack that calls of both take\n"
+    "compare limits                  the last tick count and the most changes that a gap can count; takes many minutes\n"
+    "compare --help                  this text\n"
+    "Exit status: 0 equal, 1 a difference or a class of calls never met, 2 bad usage.\n";
+
+static int bad_usage(void)
+{
+    fputs(usage, stderr);
+    return BAD_USAGE;
+}
+
+/* A decimal number of 64 bits. */
+static bool number(const char *text, uint64_t *value)
+{
+    *value = 0;
+    if (*text == 0) return false;
+    for (; *text != 0; text++) {
+        unsigned digit = (unsigned)*text - '0';
+        if (digit > 9 || *value > (UINT64_MAX - digit) / 10) return false;
+        *value = *value * 10 + digit;
+    }
+    return true;
+}
+
+static int calls(int count, char **words)
+{
+    uint64_t calls = USUAL_CALLS;
+    uint64_t seed = (uint64_t)time(NULL) * 1000003u + clock_nanoseconds() % 1000003u;
+    for (int i = 1; i < count; i += 2) {
+        uint64_t *value = NULL;
+        if (strcmp(words[i], "--calls") == 0) value = &calls;
+        if (strcmp(words[i], "--seed") == 0) value = &seed;
+        if (value == NULL || i + 1 == count || !number(words[i + 1], value)) return bad_usage();
+    }
+    return calls == 0 ? bad_usage() : compare_calls(calls, seed);
+}
+
+int main(int count, char **words)
+{
+    setvbuf(stdout, NULL, _IOLBF, 0);
+    if (count == 2 && strcmp(words[1], "--help") == 0) {
+        fputs(usage, stdout);
+        return 0;
+    }
+    if (count == 2 && strcmp(words[1], "speed") == 0) return compare_speed();
+    if (count == 2 && strcmp(words[1], "stack") == 0) return compare_stack();
+    if (count == 2 && strcmp(words[1], "limits") == 0) return compare_limits();
+    return calls(count, words);
+}

@@ -1,0 +1,118 @@
+#include "statistics.h"
+
+#include <inttypes.h>
+#include <stdio.h>
+
+static uint64_t over_kinds(const struct statistics *statistics, int refusal)
+{
+    uint64_t sum = 0;
+    for (int k = 0; k < ALTER; k++) sum += statistics->met[k][refusal];
+    return sum;
+}
+
+/* Prints a line of the report; true if the class was met. */
+static bool class(const char *name, uint64_t count)
+{
+    printf("  %-52s %12" PRIu64 "\n", name, count);
+    return count > 0;
+}
+
+static bool print_calls(const struct statistics *statistics)
+{
+    static const char *const rows[REFUSALS] = {"accepted",            "030 program or saved", "031 log",        "032 reply",
+                                               "033 last tick count", "034 button",           "035 destination"};
+    bool met = true;
+    printf("\n  %-22s%10s%11s%11s%10s%10s%12s\n", "calls", "power-on", "byte", "tick", "press", "empty", "all");
+    for (int r = 0; r < REFUSALS; r++) {
+        printf("  %-22s", rows[r]);
+        static const int widths[] = {10, 11, 11, 10, 10};
+        for (int k = 0; k < ALTER; k++) printf("%*" PRIu64, widths[k], statistics->met[k][r]);
+        printf("%12" PRIu64 "\n", over_kinds(statistics, r));
+        if (r != 4) met = met && over_kinds(statistics, r) > 0; /* 033 needs four thousand million ticks */
+    }
+    for (int k = 0; k < ALTER; k++) met = met && statistics->met[k][0] > 0;
+    puts("  (033 is for 'compare limits')\n");
+    met &= class("areas altered between calls", statistics->met[ALTER][0]);
+    class("episodes", statistics->episodes);
+    return met;
+}
+
+/* How many addresses were met at all; true if `all`. */
+static bool print_addresses(const char *name, const uint64_t counts[ADDRESSES], unsigned all)
+{
+    unsigned met = 0;
+    for (int a = 0; a < ADDRESSES; a++) met += counts[a] > 0;
+    class(name, met);
+    return met == all;
+}
+
+static bool print_replies(const struct statistics *statistics)
+{
+    static const char *const errors[ERRORS] = {"",          "E001 too short", "E002 form",
+                                               "E003 data", "E004 address",   "E005 forbidden now"};
+    bool met = true;
+    puts("\n  replies");
+    met &= class("OK", statistics->accepted_writes);
+    met &= class("data", statistics->data);
+    for (int e = 1; e < ERRORS; e++) met &= class(errors[e], statistics->errors[e]);
+    met &= print_addresses("addresses read, of 217", statistics->reads, 217);
+    met &= print_addresses("addresses written, of 207", statistics->writes, 207);
+    return met;
+}
+
+static bool print_specials(const struct statistics *statistics)
+{
+    static const char *const names[CODES] = {"",
+                                             "001 stop",
+                                             "002 pause",
+                                             "003 start at 000",
+                                             "004 continue",
+                                             "005 start at parameter",
+                                             "006 execute one line",
+                                             "007 load",
+                                             "008 save"};
+    static const char allowed[CODES][STATES + 1] = {"", "111", "011", "100", "010", "100", "100", "100", "100"};
+    bool met = true;
+    printf("\n  %-28s%14s%14s%14s\n", "special commands", "stopped", "paused", "running");
+    for (int c = 1; c < CODES; c++) {
+        printf("  %-28s", names[c]);
+        for (int s = 0; s < STATES; s++) {
+            printf("%9" PRIu64 " %s", statistics->special[c][s], allowed[c][s] == '1' ? "OK  " : "E005");
+            met = met && statistics->special[c][s] > 0;
+        }
+        putchar('\n');
+    }
+    return met;
+}
+
+static bool print_running(const struct statistics *statistics)
+{
+    static const char *const events[EVENTS] = {
+        [6] = "006 For of a busy counter", [7] = "007 For without Next",  [8] = "008 Next of a free counter",
+        [9] = "009 past line 199",         [10] = "010 stopped by button", [11] = "011 end mark",
+        [12] = "012 power-on",             [13] = "013 more than 400 lines",
+    };
+    bool met = true;
+    puts("\n  events");
+    for (int e = 6; e < EVENTS; e++) met &= class(events[e], statistics->events[e]);
+    puts("\n  running and log");
+    met &= class("ticks taken when stopped", statistics->ticks[0]);
+    met &= class("ticks taken when paused", statistics->ticks[1]);
+    met &= class("ticks taken when running", statistics->ticks[2]);
+    class("longest run of For and Next lines in a call", statistics->most_lines);
+    met &= class("calls with a run of 400", statistics->full_runs);
+    met &= class("output changes", statistics->changes);
+    met &= class("gaps begun in the log", statistics->gaps);
+    class("most changes lost in one gap", statistics->most_lost);
+    class("most bytes in one emptying", statistics->most_written);
+    return met;
+}
+
+bool statistics_print(const struct statistics *statistics)
+{
+    bool met = print_calls(statistics);
+    met &= print_replies(statistics);
+    met &= print_specials(statistics);
+    met &= print_running(statistics);
+    return met;
+}

@@ -1,0 +1,117 @@
+#include "statistics.h"
+
+#include <ctype.h>
+#include <string.h>
+
+void statistics_begin(struct statistics *statistics)
+{
+    statistics->episodes++;
+    statistics->count = 0;
+    memset(&statistics->before, 0, sizeof statistics->before);
+}
+
+static void collect(struct statistics *statistics, uint8_t byte)
+{
+    if (byte != 32 && statistics->count < sizeof statistics->characters)
+        statistics->characters[statistics->count++] = (uint8_t)toupper(byte);
+}
+
+/* The address that the finished command names, or a number beyond all of them. */
+static unsigned address(const struct statistics *statistics, unsigned last)
+{
+    const uint8_t *c = statistics->characters;
+    if (statistics->count >= 3 && c[2] == 'I') return last + 1;
+    if (statistics->count >= 3 && c[2] == 'D') return last - 1;
+    if (statistics->count < 5 || !isdigit(c[2]) || !isdigit(c[3]) || !isdigit(c[4])) return ADDRESSES;
+    return (c[2] - '0') * 100u + (c[3] - '0') * 10u + (c[4] - '0');
+}
+
+/* Stop, Pause, Auto before this call */
+static unsigned state(const struct statistics *statistics)
+{
+    return !statistics->before.run.on ? 0 : statistics->before.paused ? 1 : 2;
+}
+
+/* A special command that was done or forbidden: its code stands at the end. */
+static void count_special(struct statistics *statistics)
+{
+    const uint8_t *c = statistics->characters;
+    unsigned code = c[statistics->count - 1] - (unsigned)'0';
+    bool address_of_three = isdigit(c[2]);
+    if (statistics->count != (address_of_three ? 8u : 6u)) return;
+    if (c[statistics->count - 2] != '0' || c[statistics->count - 3] != '0' || code == 0 || code >= CODES) return;
+    statistics->special[code][state(statistics)]++;
+}
+
+static void count_reply(struct statistics *statistics, const uint8_t *reply, size_t written)
+{
+    bool read = statistics->count > 1 && statistics->characters[1] == 'R';
+    unsigned *last = read ? &statistics->last_read : &statistics->last_write;
+    unsigned named = address(statistics, *last);
+    if (reply[0] == 'E' && written == 5) {
+        unsigned number = reply[3] - (unsigned)'0';
+        if (number < ERRORS) statistics->errors[number]++;
+        if (number == 5 && named == 210) count_special(statistics);
+        return;
+    }
+    if (named >= ADDRESSES) return;
+    *last = named;
+    if (read) {
+        statistics->data++;
+        statistics->reads[named]++;
+    } else {
+        statistics->accepted_writes++;
+        statistics->writes[named]++;
+        if (named == 210) count_special(statistics);
+    }
+}
+
+static void count_byte(struct statistics *statistics, uint8_t byte, const struct both *both)
+{
+    if (byte != 13) {
+        collect(statistics, byte);
+        return;
+    }
+    count_reply(statistics, both->area[PROVED][REPLY], both->said[PROVED].written);
+    statistics->count = 0;
+}
+
+static void power_went_on(struct statistics *statistics)
+{
+    statistics->count = 0;
+    statistics->last_read = 0;
+    statistics->last_write = 0;
+    memset(&statistics->before, 0, sizeof statistics->before);
+}
+
+/* What the record shows to have happened. An event that comes while the same one is unread is not seen. */
+static void count_record(struct statistics *statistics, const struct nizhalepu_record *now)
+{
+    const struct nizhalepu_record *before = &statistics->before;
+    bool raised = now->panel.unread && !(before->panel.unread && before->panel.event == now->panel.event);
+    if (raised && now->panel.event < EVENTS) statistics->events[now->panel.event]++;
+    if (now->run.outputs != before->run.outputs) statistics->changes++;
+    if (now->log.lost > 0 && before->log.lost == 0) statistics->gaps++;
+    if (now->log.lost > statistics->most_lost) statistics->most_lost = now->log.lost;
+    statistics->before = *now;
+}
+
+void statistics_count(struct statistics *statistics, const struct step *step, const struct both *both)
+{
+    if (step->kind == ALTER) {
+        statistics->met[ALTER][0]++;
+        return;
+    }
+    const struct said *said = &both->said[PROVED];
+    unsigned refusal = said->refusal == 0 ? 0 : said->refusal - 29u;
+    statistics->calls++;
+    if (refusal < REFUSALS) statistics->met[step->kind][refusal]++;
+    if (step->kind == POWER_ON) power_went_on(statistics);
+    if (said->refusal != 0) return;
+    if (step->kind == TICK) statistics->ticks[state(statistics)]++;
+    if (step->kind == BYTE) count_byte(statistics, step->value, both);
+    if (step->kind == EMPTY && said->written > statistics->most_written) statistics->most_written = said->written;
+    if (said->lines > statistics->most_lines) statistics->most_lines = said->lines;
+    statistics->full_runs += said->lines == 400;
+    count_record(statistics, both->record);
+}

@@ -1,0 +1,45 @@
+/* statistics.h: what a run has met, as the proved box shows it. */
+#ifndef COMPARE_STATISTICS_H
+#define COMPARE_STATISTICS_H
+
+#include "both.h"
+
+enum { REFUSALS = 7, ERRORS = 6, CODES = 9, EVENTS = 14, ADDRESSES = 217, STATES = 3 };
+
+struct statistics {
+    /* counts */
+    uint64_t calls; /* of the box; alterations are none */
+    uint64_t episodes;
+    uint64_t met[KINDS][REFUSALS]; /* accepted, 030 to 035; alterations count as accepted */
+    uint64_t errors[ERRORS];
+    uint64_t accepted_writes;
+    uint64_t data;
+    uint64_t special[CODES][STATES]; /* code asked for when stopped, paused, running: done or answered E005 */
+    uint64_t ticks[STATES]; /* accepted when stopped, paused, running */
+    uint64_t events[EVENTS];
+    uint64_t changes;
+    uint64_t gaps;
+    uint64_t full_runs; /* calls that ran 400 For and Next lines */
+    uint32_t most_lost;
+    unsigned most_lines;
+    size_t most_written; /* bytes of an emptying */
+    uint64_t reads[ADDRESSES];
+    uint64_t writes[ADDRESSES];
+
+    /* what the counting keeps between calls */
+    uint8_t characters[33]; /* of the command being collected */
+    unsigned count;
+    unsigned last_read, last_write;
+    struct nizhalepu_record before;
+};
+
+/* Before the first call of an episode. */
+void statistics_begin(struct statistics *statistics);
+
+/* After a step that found no difference. */
+void statistics_count(struct statistics *statistics, const struct step *step, const struct both *both);
+
+/* The report. True if every class was met. */
+bool statistics_print(const struct statistics *statistics);
+
+#endif

@@ -1,0 +1,144 @@
+/* nizhalepu.h: the proved controller of a 32-way switch box, for a main loop in C.
+ *
+ * Link with target/staticlib/libnizhalepu.a (x86-64), which `rt staticlib nizhalepu` proves and makes; all
+ * that it needs of a C library is memcpy. The rules are those of document 01; the Rattle source of these
+ * calls, with their contracts, is crates/nizhalepu/src/lib.rt.
+ *
+ * Who owns what. The caller owns the record and every area. The library keeps no pointer, allocates
+ * nothing, has no data of its own but constants and calls nothing back; each call ends.
+ *
+ * What a caller must do:
+ * - Keep one record. Hand it first to nizhalepu_power_on, which fills it whatever it held, and then to
+ *   every other call as the call before left it: never an older copy, never one made up. The other calls
+ *   ask nothing more of the record.
+ * - Lend areas that do not overlap each other or the record, with at least as many bytes behind each
+ *   pointer as its length says. A pointer is not null, even with length 0. A length may be wrong: that
+ *   is refused.
+ * - Alter neither the program area nor the log between calls. Every call still does what document 01
+ *   says if it happens, but what the box then runs and tells is what the areas hold.
+ * - Make one call at a time on one record.
+ */
+#ifndef NIZHALEPU_H
+#define NIZHALEPU_H
+
+#include <stdbool.h>
+#include <stddef.h>
+#include <stdint.h>
+
+#ifdef __cplusplus
+extern "C" {
+#endif
+
+/* ---- sizes of the areas, in bytes */
+
+enum {
+    NIZHALEPU_PROGRAM = 1600,    /* the program area and the saved copy: 200 lines of 8, exactly */
+    NIZHALEPU_LOG_LEAST = 24,    /* the log area, and as at power-on ever after */
+    NIZHALEPU_LOG_MOST = 65536,
+    NIZHALEPU_LOG_RECORD = 12,   /* one record of the log */
+    NIZHALEPU_REPLY = 16         /* the reply area, at least; the longest reply fills it */
+};
+
+/* ---- refusals: the number that a call gives, 0 where it is accepted; checked in this order */
+
+enum {
+    NIZHALEPU_ACCEPTED = 0,
+    NIZHALEPU_BAD_PROGRAM = 30,     /* program area or saved copy is not exactly 1,600 bytes */
+    NIZHALEPU_BAD_LOG = 31,         /* log area under 24 or over 65,536 bytes, or not the length given at power-on */
+    NIZHALEPU_SHORT_REPLY = 32,     /* reply area under 16 bytes */
+    NIZHALEPU_LAST_TICK = 33,       /* the tick count is already 4,294,967,295 */
+    NIZHALEPU_BAD_BUTTON = 34,      /* button number other than 1 or 2 */
+    NIZHALEPU_SHORT_DESTINATION = 35 /* destination shorter than the records held */
+};
+
+/* ---- the record: 120 bytes. Its fields are the library's; host/layout.c holds them to the archive. */
+
+struct nizhalepu_counter { /* a loop counter */
+    uint16_t count;        /* 0 when free */
+    uint8_t line;          /* where its For stands */
+};
+
+struct nizhalepu_run {
+    bool on;                            /* a program runs or is paused */
+    uint8_t line;                       /* the line now held, or where the program stopped */
+    uint16_t wait;                      /* unpaused ticks until the next line falls due */
+    uint32_t outputs;                   /* output n is bit n-1 */
+    struct nizhalepu_counter counters[4];
+};
+
+struct nizhalepu_wire {
+    uint8_t chars[32];  /* the characters collected since the last 13 */
+    size_t len;
+    bool overlong;      /* a 33rd came */
+    uint8_t nextread;   /* the last address read, plus one */
+    uint8_t nextwrite;  /* the last address written, plus one */
+};
+
+struct nizhalepu_panel {
+    uint8_t single[8];  /* line 200 */
+    uint8_t parameter;  /* 209 */
+    uint8_t special;    /* 210 */
+    uint8_t event;      /* 212 */
+    bool unread;
+};
+
+struct nizhalepu_log {
+    size_t length;      /* of the area, as given at power-on */
+    size_t kept;        /* changes that have a record of their own */
+    uint32_t lost;      /* changes that a gap counts */
+};
+
+struct nizhalepu_record {
+    struct nizhalepu_run run;
+    bool paused;
+    uint32_t ticks;     /* the tick count */
+    struct nizhalepu_panel panel;
+    struct nizhalepu_log log;
+    struct nizhalepu_wire wire;
+};
+
+/* ---- what a call says */
+
+struct nizhalepu_said {
+    uint8_t refusal;    /* 0 where the call is accepted */
+    uint16_t lines;     /* For and Next lines run, at most 400 */
+    size_t written;     /* bytes written to the start of the reply or of the destination */
+};
+
+/* ---- the five calls. A refused call leaves every lent byte as it was, and the record too, except
+ * that a refused power-on makes a record on which every later call is refused. */
+
+/* Power-on. The program area takes the saved copy, cleaned; saved copy and log are only read. */
+struct nizhalepu_said nizhalepu_power_on(struct nizhalepu_record *record,
+                                         uint8_t *program, size_t program_length,
+                                         const uint8_t *saved, size_t saved_length,
+                                         const uint8_t *log, size_t log_length);
+
+/* One byte from the wire. `written` bytes stand at the start of the reply area, 0 but after byte 13. */
+struct nizhalepu_said nizhalepu_byte(struct nizhalepu_record *record, uint8_t byte,
+                                     uint8_t *program, size_t program_length,
+                                     uint8_t *saved, size_t saved_length,
+                                     uint8_t *log, size_t log_length,
+                                     uint8_t *reply, size_t reply_length);
+
+/* One tick, every 0.1 s. */
+struct nizhalepu_said nizhalepu_tick(struct nizhalepu_record *record,
+                                     const uint8_t *program, size_t program_length,
+                                     uint8_t *log, size_t log_length);
+
+/* One press: button 1 is Start/Stop, button 2 is Pause. */
+struct nizhalepu_said nizhalepu_press(struct nizhalepu_record *record, uint8_t button,
+                                      const uint8_t *program, size_t program_length,
+                                      uint8_t *log, size_t log_length);
+
+/* Emptying the log: `written` bytes of records stand at the start of the destination. One as long as the
+ * log is never too short. */
+struct nizhalepu_said nizhalepu_empty(struct nizhalepu_record *record,
+                                      const uint8_t *log, size_t log_length,
+                                      uint8_t *destination, size_t destination_length);
+
+#ifdef __cplusplus
+}
+#endif
+
+#endif

@@ -1,0 +1,316 @@
+#!/usr/bin/env python3
+"""rig.py IN OUT: writes the trial script of the rig and the answers it must get.
+
+The answers stand here beside what is asked, worked out by hand from document 01; none was taken from a running box. All that is
+done to them is spelling: a command becomes one `byte` line for each of its bytes, a reply its hex digits.
+"""
+import sys
+
+END_MARK = "5300000000000000"
+asked, answers = [], []
+log_length = 24
+
+
+def line(text, answer):
+    asked.append(text)
+    answers.append(answer)
+
+
+def send(command, reply, lines=0):
+    """A command and its 13; every byte but the 13 is answered by nothing."""
+    for character in command:
+        line(f"byte {ord(character)} 1600 1600 {log_length} 16", "0 0 0 -")
+    text = (reply + "\r").encode().hex().upper()
+    line(f"byte 13 1600 1600 {log_length} 16", f"0 {lines} {len(reply) + 1} {text}")
+
+
+def tick(lines=0):
+    line(f"tick 1600 {log_length}", f"0 {lines}")
+
+
+def press(button, lines=0):
+    line(f"press {button} 1600 {log_length}", f"0 {lines}")
+
+
+def on(length=24, saved=END_MARK * 200):
+    """Power-on with a saved copy; 01's worked points start from 200 end marks."""
+    global log_length
+    log_length = length
+    line(f"set saved 0 {saved}", "ok")
+    line(f"on 1600 1600 {length}", "0")
+
+
+def change(cause, ticks, word):
+    return f"1EE101{cause:02X}{ticks:08X}{word:08X}"
+
+
+def gap(ticks, lost):
+    return f"1EE10200{ticks:08X}{lost:08X}"
+
+
+def empty(*records):
+    count = 12 * len(records)
+    line(f"empty {log_length} {count}", f"0 {count}")
+    line(f"get dest 0 {count}", "".join(records) or "-")
+
+
+def before_power_on():
+    """The record is one of a refused power-on, with a log length of 0: 031 wherever the program area is right."""
+    for length in (0, 23, 24, 65536):
+        line(f"byte 13 1600 1600 {length} 16", "31 0 0 -")
+        line(f"tick 1600 {length}", "31 0")
+        line(f"press 1 1600 {length}", "31 0")
+        line(f"empty {length} 70000", "31 0")
+    line("tick 1599 24", "30 0")
+
+
+def points_of_the_wire():
+    on()
+    send("", "E001")
+    send("CR", "E001")
+    send("CRI", "S00000000000000")  # 001, not 000; both are end marks: see what D then reads
+    send("CRD", "S00000000000000")
+    send("CRD", "E004")
+    on(saved=END_MARK + "4601000300000000" + END_MARK * 198)
+    send("CRI", "F10003")
+    send("CR217", "E004")
+    send("CR216", "0000")
+    send("CR201", "80")
+    send("CR212", "012")
+    send("CR201", "00")
+    send("cw 000 f 1 0003", "OK")
+    send("CR000", "F10003")
+    send("CW000F50003", "E003")
+    send("CR000", "F10003")
+
+
+def checks_of_a_command():
+    """01's order of checks: each is seen where a later one would answer otherwise."""
+    on()
+    for command, reply in (("C", "E001"), ("xr217", "E002"), ("CX217", "E002"), ("CR21", "E002"), ("CR2170", "E004"),
+                           ("CR21A", "E004"), ("CR0000", "E002"), ("CW217", "E004"), ("CW201", "E004"), ("CWD", "E004"),
+                           ("CW000", "E002"), ("CW000X", "E003"), ("CW000N12", "E002"), ("CW000F0XXXX", "E003"),
+                           ("CW000S01000000000000", "E003"), ("CW209256", "E003"), ("CW210009", "E003"), ("CW210002", "E005")):
+        send(command, reply)
+    send("CW999" + "0" * 27, "E004")  # 32 characters
+    send("CW999" + "0" * 28, "E002")  # a 33rd: overlong comes before the address
+    for character in "\0\n\x7f\x80\xff":
+        send("CR" + character, "E002")  # a third character
+    send("CR ", "E001")  # dropped
+    send("CWIN5", "E003")  # refused, so the last address stays 000
+    send("CWIN1", "OK")
+    send("CR001", "N1")
+    send("CW000S00000000010009", "OK")
+    send("CW210003", "OK")
+    send("CW217", "E004")
+    send("CW000", "E005")
+    send("CW209007", "OK")
+    send("CW210007", "E005")
+    send("CW210001", "OK")
+    empty(change(0, 0, 1))
+
+
+def points_of_running():
+    on()
+    for number, text in enumerate(("F10003", "S00000000010002", "N1", "S00000000000000")):
+        send(f"CW{number:03}{text}", "OK")
+    send("CW210003", "OK", 1)
+    send("CR206", "01")
+    send("CR213", "0003")
+    tick()
+    send("CR213", "0003")
+    tick(1)  # Next, back to the line after the For
+    send("CR213", "0002")
+    send("CR201", "82")  # running, the event of power-on unread
+    tick()
+    tick(1)
+    tick()
+    send("CR206", "01")
+    tick(1)
+    for address, value in ((206, "00"), (211, "003"), (212, "011"), (213, "0000"), (201, "00")):
+        send(f"CR{address}", value)
+    empty(change(1, 0, 1), gap(6, 1))  # two changes in a log of two places
+
+    on()
+    send("CW000F10399", "OK")
+    send("CW001N1", "OK")
+    send("CW210003", "OK", 400)
+    send("CR212", "011")
+    send("CR211", "002")
+    send("CW000F10400", "OK")
+    send("CW210003", "OK", 400)
+    send("CR212", "013")
+    send("CR211", "001")  # the Next that was due and did not run
+    send("CW000F10000", "OK")
+    send("CW210003", "OK", 2)  # counts as 0001: For and one Next
+    send("CR212", "011")
+
+
+def points_of_the_log():
+    on()
+    send("CW20601", "OK")
+    tick()
+    send("CW20501", "OK")
+    empty(change(255, 0, 1), gap(1, 1))
+    send("CW20601", "OK")  # no change
+    empty()
+    for number, outputs in enumerate(("02", "03", "04")):
+        tick()
+        send(f"CW206{outputs}", "OK")
+    line("get log 0 24", change(255, 2, 0x102) + gap(4, 2))
+    line("empty 24 23", "35 0")
+    empty(change(255, 2, 0x102), gap(4, 2))
+    line("get log 0 24", change(255, 2, 0x102) + gap(4, 2))  # emptying changes no byte of the log
+    send("CW20605", "OK")
+    line("set log 0 00", "ok")  # altered by the caller: copied as it stands
+    line("set dest 0 777777777777777777777777777777", "ok")
+    line("empty 24 15", "0 12")
+    line("get dest 0 15", "00" + change(255, 4, 0x105)[2:] + "777777")
+
+
+def points_of_special_commands():
+    on()
+    send("CW209200", "OK")
+    send("CW200S00FF0000011234", "OK")
+    send("CW210006", "OK")
+    send("CR203", "FF")
+    send("CR210", "006")
+    send("CW210005", "E004")
+    send("CR210", "006")
+    empty(change(254, 0, 0xFF000001))
+    send("CW000S00000000070002", "OK")
+    press(1)
+    send("CW20600", "E005")
+    press(2)
+    send("CR201", "83")
+    send("CW20600", "E005")
+    send("CW210003", "E005")
+    line("ticks 1000 1600 24", "0 0")  # paused: none counts
+    send("CW210004", "OK")
+    tick()
+    send("CR206", "07")
+    tick()  # line 001, the end mark
+    send("CR206", "00")
+    send("CR212", "011")
+    press(2)  # does nothing when stopped
+    send("CR201", "00")
+    press(1)
+    press(1)
+    send("CR212", "010")
+    empty(change(0, 0, 7), gap(1002, 2))
+
+
+def bench():
+    """01's bench: an all-zero saved copy, a 24-byte log."""
+    on(saved="00" * 1600)
+    line("get program 0 16", END_MARK * 2)  # loaded in the cleaned form
+    send("CW000S00000000050003", "OK")
+    send("CW001S00000000000000", "OK")
+    send("CW210003", "OK")
+    tick()
+    tick()
+    send("CR206", "05")
+    tick()
+    send("CR206", "00")
+    send("CR212", "011")
+
+
+def saving():
+    """Power-on and 007 clean what they load; 008 cleans what it saves and leaves the area."""
+    good, bad = "4E02000000000000", "4605000300000000"
+    on(saved=good + bad + END_MARK * 198)
+    line("get program 0 16", good + END_MARK)
+    line("get saved 0 16", good + bad)  # power-on only reads it
+    line(f"set program 1592 {bad}", "ok")
+    send("CR199", "S00000000000000")
+    send("CW210008", "OK")
+    line("get program 1592 8", bad)
+    line("get saved 0 16", good + END_MARK)
+    line("get saved 1592 9", END_MARK + "00")
+    send("CW000F10001", "OK")
+    send("CW210007", "OK")
+    send("CR000", "N2")
+    line("get program 1592 8", END_MARK)
+
+
+def refusals():
+    """In their order, and nothing changes. 033 takes 4,294,967,295 ticks and is not here."""
+    on()
+    send("CW20601", "OK")
+    for character in "CR20":
+        line(f"byte {ord(character)} 1600 1600 24 16", "0 0 0 -")
+    line("set reply 0 " + "EE" * 64, "ok")
+    for lengths, refusal in (("1599 1600 23 15", 30), ("1600 1601 23 15", 30), ("2000 2000 25 0", 30), ("0 0 0 0", 30),
+                             ("1600 1600 23 15", 31), ("1600 1600 25 15", 31), ("1600 1600 65537 16", 31), ("1600 1600 0 16", 31),
+                             ("1600 1600 24 15", 32), ("1600 1600 24 0", 32)):
+        line(f"byte 54 {lengths}", f"{refusal} 0 0 -")
+    line("get reply 0 64", "EE" * 64)
+    line("tick 1601 23", "30 0")
+    line("tick 1600 23", "31 0")
+    line("press 3 1599 23", "30 0")
+    line("press 3 1600 23", "31 0")
+    for button in (0, 3, 255):
+        line(f"press {button} 1600 24", "34 0")
+    line("empty 25 0", "31 0")
+    line("empty 24 11", "35 0")
+    line("ticks 3 1599 24", "30 0")
+    line("ticks 18446744073709551615 1600 25", "31 0")
+    line("byte 54 1600 1600 24 64", "0 0 0 -")  # the command begun before goes on: CR206
+    line("byte 13 1600 1600 24 64", "0 0 3 30310D")
+    line("get reply 0 5", "30310DEEEE")
+    empty(change(255, 0, 1))  # at tick 0: no refused tick was taken
+    line("on 1600 1600 23", "31")
+    line("tick 1600 24", "31 0")
+    for lengths, refusal in (("1599 1600 23", 30), ("1600 1599 65537", 30), ("1600 1600 65537", 31), ("1600 1600 65536", 0)):
+        line(f"on {lengths}", str(refusal))
+    line("tick 1600 24", "31 0")
+    line("tick 1600 65536", "0 0")
+    line("ticks 0 1600 65536", "0 0")
+    line("ticks 0 1599 65536", "0 0")  # no tick, no refusal
+    line("empty 65536 0", "0 0")
+
+
+def areas():
+    line("set program 1999 aB", "ok")
+    line("get program 1998 2", "00AB")
+    line("set program 2000 -", "ok")
+    line("get program 2000 0", "-")
+    line("get saved 0 0", "-")
+    line("set dest 69999 01", "ok")
+    line("get dest 69998 2", "0001")
+    line("set reply 63 01", "ok")
+    line("set log 69998 0102", "ok")
+    line("get log 69998 2", "0102")
+    line("  get\t log  00069999 \t 1 ", "02")
+
+
+def unread():
+    """Lines that the rig cannot read, or that ask for more than it has."""
+    for text in ("", " ", "\t", "on", "on 1600 1600", "on 1600 1600 24 1", "ON 1600 1600 24", "on,1600,1600,24",
+                 "on 2001 1600 24", "on 1600 2001 24", "on 1600 1600 70001", "on +1600 1600 24", "on 1600 1600 -1",
+                 "on 1600 1600 0x18", "on 1600 1600 24.", "byte 256 1600 1600 24 16", "byte 13 1600 1600 24 65",
+                 "byte 13 1600 1600 24", "byte -1 1600 1600 24 16", "tick 1600", "tick 1600 24 0",
+                 "ticks 18446744073709551616 1600 24", "ticks 99999999999999999999999 1600 24", "ticks 1 1600",
+                 "press 256 1600 24", "press 1 1600 70001", "empty 24", "empty 24 70001", "set program 0", "set program 0 0",
+                 "set program 0 0G", "set program 0 00 00", "set program 2000 00", "set program 2001 -", "set program 1999 0000",
+                 "set dest 69999 0000", "set box 0 00", "set program -1 00", "set program 0 --", "get program 2000 1",
+                 "get program 2001 0", "get program 0 2001", "get program 0", "get reply 0 65", "get log 69999 2", "get log 0 -",
+                 "get program 18446744073709551615 1", "hello", "# a comment", "tick1600 24", "\u00f6 1600 24"):
+        line(text, "?")
+    line("get program 0 1", "53")  # none of them did anything: line 000 is an end mark
+
+
+before_power_on()
+points_of_the_wire()
+checks_of_a_command()
+points_of_running()
+points_of_the_log()
+points_of_special_commands()
+bench()
+saving()
+refusals()
+areas()
+unread()
+for name, lines in zip(sys.argv[1:3], (asked, answers)):
+    with open(name, "w", encoding="utf-8", newline="\n") as file:
+        file.write("".join(text + "\n" for text in lines))

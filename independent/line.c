@@ -1,0 +1,260 @@
+/* line.c: program lines, how they run, special commands (01, "Variables", "Running", "Special commands"). */
+#include <string.h>
+
+#include "internal.h"
+
+static const uint8_t end_mark[LINE_BYTES] = {'S'};
+
+static uint32_t two_bytes(const uint8_t *bytes)
+{
+    return (uint32_t)bytes[0] << 8 | bytes[1];
+}
+
+static uint32_t four_bytes(const uint8_t *bytes)
+{
+    return two_bytes(bytes) << 16 | two_bytes(bytes + 2);
+}
+
+static bool is_counter(uint8_t number)
+{
+    return number >= 1 && number <= COUNTERS;
+}
+
+/* State: 53 00 X4 X3 X2 X1 time. For: 46 counter count and four zeros. Next: 4E counter and six zeros. */
+static bool is_line(const uint8_t *bytes)
+{
+    switch (bytes[0]) {
+    case 'S':
+        return bytes[1] == 0 && two_bytes(bytes + 6) <= NUMBER_MOST;
+    case 'F':
+        return is_counter(bytes[1]) && two_bytes(bytes + 2) <= NUMBER_MOST && four_bytes(bytes + 4) == 0;
+    case 'N':
+        return is_counter(bytes[1]) && two_bytes(bytes + 2) == 0 && four_bytes(bytes + 4) == 0;
+    default:
+        return false;
+    }
+}
+
+/* Eight bytes that are no line count as a State with outputs 0 and time 0 wherever they are read. */
+struct line box_read_line(const uint8_t *bytes)
+{
+    struct line line = {LINE_STATE, 0, 0, 0};
+
+    if (!is_line(bytes))
+        return line;
+    if (bytes[0] == 'S') {
+        line.number = (uint16_t)two_bytes(bytes + 6);
+        line.outputs = four_bytes(bytes + 2);
+        return line;
+    }
+    line.kind = bytes[0] == 'F' ? LINE_FOR : LINE_NEXT;
+    line.counter = (uint8_t)(bytes[1] - 1);
+    line.number = (uint16_t)two_bytes(bytes + 2);
+    return line;
+}
+
+/* The cleaned form in which power-on and 007 load and 008 saves; the source stays as it was. */
+void box_copy_cleaned(uint8_t *to, const uint8_t *from)
+{
+    for (size_t at = 0; at < PROGRAM_BYTES; at += LINE_BYTES)
+        memcpy(to + at, is_line(from + at) ? from + at : end_mark, LINE_BYTES);
+}
+
+/* Stop frees the loops and keeps outputs and line. */
+static void stop(struct box *box)
+{
+    box->mode = STOPPED;
+    memset(box->counter, 0, sizeof box->counter);
+}
+
+/* A stop with an event overwrites any unread one. */
+void box_stop_with(struct box *box, uint8_t event)
+{
+    stop(box);
+    box->event = event;
+    box->unread = true;
+}
+
+/* A start frees all loops. 01 says nothing of an unread event at a start: it stays. */
+uint16_t box_start(struct box *box, unsigned line, const uint8_t *program, uint8_t *log)
+{
+    memset(box->counter, 0, sizeof box->counter);
+    box->mode = RUNNING;
+    return box_run(box, line, program, log);
+}
+
+/* State: all 32 outputs at once, then its time; with time 0 the program ends here. */
+static void run_state(struct box *box, const struct line *state, uint8_t *log)
+{
+    box_set_outputs(box, state->outputs, box->line, log);
+    box->wait = state->number;
+    if (state->number == 0)
+        box_stop_with(box, EVENT_END);
+}
+
+/* Is there a Next of this counter on any later line? The bytes of a Next are fixed, so compare all eight. */
+static bool next_stands_below(const uint8_t *program, unsigned line, unsigned counter)
+{
+    const uint8_t next[LINE_BYTES] = {'N', (uint8_t)(counter + 1)};
+
+#if DAMAGE == 9
+    line++;
+#endif
+    for (line++; line < LINES; line++)
+        if (memcmp(program + line * LINE_BYTES, next, LINE_BYTES) == 0)
+            return true;
+    return false;
+}
+
+/* Runs the For on the present line. Answers 0 or the event that stops the program. */
+static uint8_t run_for(struct box *box, const struct line *line, const uint8_t *program)
+{
+    const unsigned counter = line->counter;
+
+    if (box->counter[counter] != 0)
+        return EVENT_COUNTER_BUSY;
+    if (!next_stands_below(program, box->line, counter))
+        return EVENT_NO_NEXT;
+    /* Count 0000 counts as 0001; 213-216 then show 1, since a busy counter is never 0. */
+    box->counter[counter] = line->number == 0 ? 1 : line->number;
+    /* A later line exists here, so this is 199 at most, whatever the caller makes of the area later. */
+    box->after_for[counter] = (uint8_t)(box->line + 1);
+    return 0;
+}
+
+#if DAMAGE == 2
+static bool for_stands_above(const uint8_t *program, unsigned line, unsigned counter)
+{
+    while (line-- > 0) {
+        const struct line above = box_read_line(program + line * LINE_BYTES);
+        if (above.kind == LINE_FOR && above.counter == counter)
+            return true;
+    }
+    return false;
+}
+#endif
+
+/* Runs the Next on the present line; *due is the line after it, altered to jump back. Answers as run_for. */
+static uint8_t run_next(struct box *box, const struct line *line, const uint8_t *program, unsigned *due)
+{
+    const unsigned counter = line->counter;
+
+    (void)program; /* a Next is judged by its counter alone */
+    if (box->counter[counter] == 0) {
+#if DAMAGE == 2
+        if (for_stands_above(program, box->line, counter))
+            return 0;
+#endif
+        return EVENT_NO_FOR; /* even if a For stands above in the text */
+    }
+    if (--box->counter[counter] > 0) {
+        *due = box->after_for[counter];
+#if DAMAGE == 1
+        *due -= 1;
+#endif
+    }
+    return 0;
+}
+
+/*
+ * Runs the lines that fall due in this call, from line `due` on, until a State is held or the program stops.
+ * Answers the number of For and Next lines run, those that end in 006, 007 or 008 among them, and so too a Next
+ * that goes on past 199.
+ */
+uint16_t box_run(struct box *box, unsigned due, const uint8_t *program, uint8_t *log)
+{
+    uint16_t run = 0;
+
+    for (;;) {
+        struct line line;
+        uint8_t event;
+
+        /*
+         * Going on past 199: the line stays 199, which it is already. This comes before the bound of 400:
+         * past 199 no line is due, so a 400th Next on line 199 that goes on gives 009 and not 013.
+         */
+        if (due == LINES) {
+            box_stop_with(box, EVENT_PAST_LAST);
+            return run;
+        }
+        box->line = (uint8_t)due;
+        line = box_read_line(program + due * LINE_BYTES);
+        if (line.kind == LINE_STATE) {
+            run_state(box, &line, log);
+            return run;
+        }
+        /* The 401st is not run, but it is where the program stopped: 211 shows it. */
+        if (run == RUN_MOST) {
+            box_stop_with(box, EVENT_TOO_LONG);
+            return run;
+        }
+        run++;
+        due++;
+        event = line.kind == LINE_FOR ? run_for(box, &line, program) : run_next(box, &line, program, &due);
+        if (event != 0) {
+            box_stop_with(box, event);
+            return run;
+        }
+    }
+}
+
+/* 006: a State sets the outputs; neither the line of 211 nor the event moves. For and Next do nothing. */
+static void execute_one(struct box *box, const uint8_t *program, uint8_t *log)
+{
+    const unsigned at = box->parameter;
+    const struct line line = box_read_line(at < LINES ? program + at * LINE_BYTES : box->single);
+
+    if (line.kind == LINE_STATE)
+        box_set_outputs(box, line.outputs, CAUSE_SINGLE, log);
+}
+
+/* Check 7 and the command itself. 210 shows the last one accepted, also one that had nothing to do. */
+unsigned box_special_command(struct box *box, unsigned code, const struct lent *lent, uint16_t *lines)
+{
+    static const bool allowed[8][3] = {
+        /* Stop, Pause, Auto */
+        {true, true, true},
+        {false, true, true},
+        {true, false, false},
+        {false, true, false},
+        {true, false, false},
+        {true, false, false},
+        {true, false, false},
+        {true, false, false},
+    };
+
+    if (code < 1 || code > 8)
+        return E_DATA;
+    if (!allowed[code - 1][box->mode])
+        return E_FORBIDDEN;
+    if ((code == 5 && box->parameter >= LINES) || (code == 6 && box->parameter > SINGLE))
+        return E_ADDRESS;
+    box->special = (uint8_t)code;
+    switch (code) {
+    case 1: /* raises no event; when stopped the loops are free already */
+        stop(box);
+        break;
+    case 2:
+        box->mode = PAUSED;
+        break;
+    case 3:
+        *lines = box_start(box, 0, lent->program, lent->log);
+        break;
+    case 4:
+        box->mode = RUNNING;
+        break;
+    case 5:
+        *lines = box_start(box, box->parameter, lent->program, lent->log);
+        break;
+    case 6:
+        execute_one(box, lent->program, lent->log);
+        break;
+    case 7:
+        box_copy_cleaned(lent->program, lent->saved);
+        break;
+    default:
+        box_copy_cleaned(lent->saved, lent->program);
+        break;
+    }
+    return 0;
+}

@@ -1,0 +1,127 @@
+#!/usr/bin/env python3
+"""Writes docs/FIGURES.md: lines, assumptions, time and memory by crate.
+
+Usage: python3 tools/figures.py [--gate]
+
+Each crate is proved in a copy of the repository, one at a time, over those below it. With --gate the gate (.ci/run) is run in the copy
+too and its time and last line are written; without it the paper keeps the line that it has."""
+import glob
+import os
+import re
+import shutil
+import subprocess
+import sys
+import tempfile
+import time
+
+ROOT = os.path.dirname(os.path.dirname(os.path.abspath(__file__)))
+PAPER = os.path.join(ROOT, 'docs/FIGURES.md')
+
+
+def crates():
+    with open(os.path.join(ROOT, 'crates.txt')) as file:
+        return [line.split(':')[0] for line in file if ':' in line and not line.startswith('#')]
+
+
+def lines(pattern):
+    """lines that are neither blank nor comment"""
+    count = 0
+    for path in glob.glob(os.path.join(ROOT, pattern), recursive=True):
+        with open(path) as file:
+            count += sum(1 for line in file if line.strip() and not line.strip().startswith(('--', '//')))
+    return count
+
+
+def sizes(crate):
+    base = f'crates/{crate}'
+    laws = lines(f'{base}/proofs/*.antt')
+    return {'code': lines(f'{base}/src/**/*.rt'), 'definitions': lines(f'{base}/specs/**/*.antt'), 'laws': laws,
+            'proofs': lines(f'{base}/proofs/**/*.antt') - laws, 'edits': len(glob.glob(os.path.join(ROOT, base, 'must-fail/*.edit')))}
+
+
+def run(command, folder):
+    """seconds, megabytes and output of a command"""
+    start = time.monotonic()
+    with tempfile.TemporaryFile() as said:
+        process = subprocess.Popen(command, cwd=folder, stdout=said, stderr=subprocess.STDOUT, env=dict(os.environ, RT_JOBS='1'))
+        _, status, used = os.wait4(process.pid, 0)
+        said.seek(0)
+        text = said.read().decode()
+    if status != 0:
+        sys.exit(f'{" ".join(command)} failed:\n{text[-2000:]}')
+    return time.monotonic() - start, used.ru_maxrss / 1024, text
+
+
+def proved(crate, folder):
+    seconds, megabytes, text = run(['rt', 'check', crate], folder)
+    own = text[:text.index(f'rt: {crate} proved')]
+    verdict = re.findall(r'^logic=proved .*$', own, re.M)[-1]
+    functions = re.search(r'functions=(\d+)', verdict)
+    assumed = re.search(r'axioms=(\d+)', verdict)
+    return {'functions': int(functions.group(1)), 'assumptions': int(assumed.group(1)) if assumed else 0, 'seconds': seconds,
+            'megabytes': megabytes}
+
+
+def gate_line(folder):
+    if '--gate' in sys.argv[1:]:
+        start = time.monotonic()
+        said = subprocess.run(['.ci/run'], cwd=folder, stdout=subprocess.PIPE, stderr=subprocess.STDOUT, text=True).stdout
+        minutes = (time.monotonic() - start) / 60
+        return f'The gate takes {minutes:.0f} minutes on two cores and ends in `{said.strip().splitlines()[-1]}`.'
+    if os.path.exists(PAPER):
+        with open(PAPER) as file:
+            kept = [line.strip() for line in file if line.startswith('The gate takes')]
+        if kept:
+            return kept[0]
+    return 'The gate was not run for this paper.'
+
+
+HEAD = '''# Figures
+
+    python3 tools/figures.py --gate
+
+writes this paper. Lines are those that are neither blank nor comment: code (`src`), definitions (`specs`), laws (modules in `proofs`) and
+proofs (one file for each function; the five of `nizhalepu` are written by `tools/by_reference.py`). Edits are the wrong boxes in
+`must-fail`. Assumptions are contracts of C functions that the toolchain's libraries assume and the crate reaches. Seconds and megabytes
+are those of one `rt check` of the crate on one core, the crates below it proved already.
+
+'''
+
+COLUMNS = ['code', 'definitions', 'laws', 'proofs', 'functions', 'edits', 'assumptions', 'seconds', 'megabytes']
+
+
+def main():
+    with tempfile.TemporaryDirectory() as place:
+        folder = os.path.join(place, 'repository')
+        shutil.copytree(ROOT, folder, ignore=shutil.ignore_patterns('target', '__pycache__'))
+        rows = {}
+        for crate in crates():
+            rows[crate] = sizes(crate) | proved(crate, folder)
+            print(crate, rows[crate], flush=True)
+        gate = gate_line(folder)
+    each = list(rows.values())
+    total = {column: sum(row[column] for row in each) for column in COLUMNS}
+    for column in ('assumptions', 'megabytes'):
+        total[column] = max(row[column] for row in each)
+    rows['**all**'] = total
+    with open(PAPER, 'w') as out:
+        out.write(HEAD + '| Crate | ' + ' | '.join(COLUMNS) + ' |\n|---' + '|---:' * len(COLUMNS) + '|\n')
+        for crate, row in rows.items():
+            out.write(f'| {crate} | ' + ' | '.join(f'{row[column]:.0f}' for column in COLUMNS) + ' |\n')
+        out.write(f'\nIn the last row assumptions and megabytes are the most of any crate. {gate}\n\n')
+        out.write(outside())
+
+
+def outside():
+    rows = [('`host`: header, programs and tests in C, shell and Python', ['host/*', 'host/tests/*.py', 'host/compare/*']),
+            ('`independent`: the second box, in C', ['independent/*']), ('`model`: the third reading, in Python', ['model/*.py']),
+            ('`tools`', ['tools/*.py'])]
+    text = 'Outside Rattle, lines in all:\n\n| Folder | lines |\n|---|---:|\n'
+    for name, patterns in rows:
+        paths = [path for pattern in patterns for path in glob.glob(os.path.join(ROOT, pattern)) if os.path.isfile(path)]
+        text += f'| {name} | {sum(sum(1 for _ in open(path)) for path in paths)} |\n'
+    return text
+
+
+if __name__ == '__main__':
+    main()
