@@ -108,7 +108,7 @@ def main():
         out.write(HEAD + '| Crate | ' + ' | '.join(COLUMNS) + ' |\n|---' + '|---:' * len(COLUMNS) + '|\n')
         for crate, row in rows.items():
             out.write(f'| {crate} | ' + ' | '.join(f'{row[column]:.0f}' for column in COLUMNS) + ' |\n')
-        out.write(f'\nIn the last row assumptions and megabytes are the most of any crate. {gate}\n\n')
+        out.write(f'\nIn the last row assumptions and megabytes are the most of any crate.\n\n{gate}\n\n')
         out.write(outside())
 
 

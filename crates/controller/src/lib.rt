@@ -1,5 +1,5 @@
-// The controller: one state that passes through every call by value, and the five calls.
-// So far the types and, in specs/, the definitions.
+// The controller: the state that passes through every call by value, and what a call answers. What the five calls do with it is
+// defined in specs/; the code that does it is in deeds, answers and calls.
 use log::Log;
 use running::Run;
 use variables::Panel;

@@ -10,7 +10,8 @@ use Rattle.formats.specs.Checks.{Res, refused, passed, _>>_, _orElse_, a
 use Rattle.formats.specs.Digits.{number, digitValue, isDigit, numberIn}
 use Rattle.formats.specs.declared.Number.{Number}
 use Rattle.formats.specs.declared.Number.the-variants.{Is, No}
-use Rattle.formats.specs.declared.Byte as B
+use Rattle.formats.specs.declared.Byte.{Byte}
+use Rattle.formats.specs.declared.Byte.the-variants.{Is as IsByte, Error}
 use Rattle.formats.specs.Values.{numberOf, byteOf}
 use Rattle.formats.proofs.Checks.{ok-at}
 use Rattle.formats.proofs.Characters.{read-fits}
@@ -54,11 +55,18 @@ no-number base e cs h = go (reading base cs)
 pub number-fits : (base : ℕ) (cs : List ℕ) (v : ℕ) → Is v ≡ numberOf (numberIn base 3 cs) → v < base ^ length cs
 number-fits base cs v h = ok-at (λ w. w < base ^ length cs) (read-fits base 3 cs) (is-number base 3 cs v h)
 
--- what was answered says what was read
-pub byte-passed : (x : Res ℕ) {v : ℕ} → B.the-variants.Is v ≡ byteOf x → x ≡ passed v
-byte-passed (refused e) {v} h = absurd (let z : _≡_ {A = ℕ} 0 1 = cc in omega arith)
-byte-passed (passed w) {v} h = ap passed (cc)
+-- an answer that stands for a result says what the result is, if it can be read back
+pub told : {R A : Type 0} (of : R → A) (back : A → R) → ((x : R) → back (of x) ≡ x) → (x : R) {a : A} → a ≡ of x → x ≡ back a
+told of back inverse x e = sym (inverse x) ∙ ap back (sym e)
 
-pub byte-refused : (x : Res ℕ) {e : ℕ} → B.the-variants.Error e ≡ byteOf x → x ≡ refused e
-byte-refused (refused d) {e} h = ap refused (cc)
-byte-refused (passed w) {e} h = absurd (let z : _≡_ {A = ℕ} 0 1 = cc in omega arith)
+-- what was answered says what was read
+abbrev pub byteBack : Byte → Res ℕ
+byteBack (IsByte v) = passed v
+byteBack (Error e) = refused e
+
+byte-back : (x : Res ℕ) → byteBack (byteOf x) ≡ x
+byte-back (refused e) = refl
+byte-back (passed v) = refl
+
+pub byte-told : (x : Res ℕ) {r : Byte} → r ≡ byteOf x → x ≡ byteBack r
+byte-told = told byteOf byteBack byte-back

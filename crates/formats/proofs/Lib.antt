@@ -3,3 +3,4 @@ pub mod Digits
 pub mod Characters
 pub mod Loops
 pub mod Answers
+pub mod Parts

@@ -216,15 +216,15 @@ fn is_next_of(c: u8, l: Line) -> bool
     false
 }
 
-// Line i is a Next of counter c. Its first two bytes are asked first: they decide for nearly every line of a search.
+// Line i is a Next of counter c. Its first two bytes are asked first, of which the counter decides for nearly every line of a search.
 fn is_next_at(p: &[u8], c: u8, i: usize) -> bool
     requires { ⌜ (length (now p) ≡ 1600) × (i < 200) ⌝ }
     ensures test { λ r. ⌜ r ≡ isNextOf c (lineAt (now (p .entry)) i) ⌝ }
 {
-    if p[8 * i] != b'N' {
+    if p[8 * i + 1] != c {
         return false;
     }
-    if p[8 * i + 1] != c {
+    if p[8 * i] != b'N' {
         return false;
     }
     is_next_of(c, line_at(p, i))

@@ -16,10 +16,11 @@ use Rattle.formats.specs.declared.Number.{Number}
 use Rattle.formats.specs.declared.Number.the-variants.{Is, No}
 use Rattle.formats.specs.Values.{numberOf}
 use Rattle.formats.proofs.Checks.{both-true, ok-at, ok-passed, ok-guard}
-use Rattle.formats.proofs.Answers.{number-fits}
+use Rattle.formats.proofs.Answers.{number-fits, told}
 use Rattle.lines.specs.Line.{isCounter, part}
 use Rattle.lines.specs.declared.Line.{Line}
-use Rattle.texts.specs.declared.Parsed as P
+use Rattle.texts.specs.declared.Parsed.{Parsed}
+use Rattle.texts.specs.declared.Parsed.the-variants.{Is as IsLine, Error}
 use Rattle.texts.specs.Values.{parsedOf}
 use Rattle.texts.specs.Text.{counterIn}
 use Rattle.texts.proofs.Texts.{part-length}
@@ -67,10 +68,13 @@ pub some-length : (n : ℕ) → (n ≡ 0 → ⊥) → 0 < n
 some-length n ne = let h : n ≢ 0 = ne in omega arith
 
 -- what was answered says what was read
-pub parsed-passed : (x : Res Line) {v : Line} → P.the-variants.Is v ≡ parsedOf x → x ≡ passed v
-parsed-passed (refused e) {v} h = absurd (let z : _≡_ {A = ℕ} 0 1 = cc in omega arith)
-parsed-passed (passed w) {v} h = ap passed (cc)
+abbrev pub parsedBack : Parsed → Res Line
+parsedBack (IsLine v) = passed v
+parsedBack (Error e) = refused e
 
-pub parsed-refused : (x : Res Line) {e : ℕ} → P.the-variants.Error e ≡ parsedOf x → x ≡ refused e
-parsed-refused (refused d) {e} h = ap refused (cc)
-parsed-refused (passed w) {e} h = absurd (let z : _≡_ {A = ℕ} 0 1 = cc in omega arith)
+parsed-back : (x : Res Line) → parsedBack (parsedOf x) ≡ x
+parsed-back (refused e) = refl
+parsed-back (passed v) = refl
+
+pub parsed-told : (x : Res Line) {r : Parsed} → r ≡ parsedOf x → x ≡ parsedBack r
+parsed-told = told parsedOf parsedBack parsed-back

@@ -1,19 +1,19 @@
 -- Laws of the code's answers and loops.
 -- Assumes nothing.
-use mathlib.Core.Path.{_≡_, sym, ap, ap₂, _∙_}
+use mathlib.Core.Path.{_≡_, refl, sym, ap, ap₂, _∙_}
 use Prim.Native.Nat.{ℕ, _+_, _-_, _<_}
-use native.Mathlib.Omega.{arith}
 use native.Mathlib.Numerals.{add-one}
 use mathlib.Core.List.{List, [], _∷_, _++_, map}
 use lib.ListN.{length, take, drop, getD, set}
 use lib.Seq.{take-suc, take-suc-set}
 use Rattle.formats.specs.Checks.{Res, refused, passed}
+use Rattle.formats.proofs.Answers.{told}
 use Rattle.formats.proofs.Loops.{map-snoc}
-use Rattle.lines.proofs.Writing.{rest-of}
+use Rattle.formats.proofs.Parts.{rest-of}
 use Rattle.special.specs.declared.Mode.{Mode}
 use Rattle.wire.specs.declared.Data.{Data}
 use Rattle.wire.specs.declared.Given.{Given}
-use Rattle.wire.specs.declared.Given as G
+use Rattle.wire.specs.declared.Given.the-variants.{Is, Error}
 use Rattle.wire.specs.Values.{givenOf}
 use Rattle.wire.specs.Collecting.{capital}
 use Rattle.wire.specs.Command.{rest, dataIn}
@@ -26,13 +26,16 @@ capital-more chars copy i v a b e f =
     ∙ sym (ap (λ n. map capital (take n chars)) (add-one i) ∙ ap (map capital) (take-suc chars i 0 a) ∙ map-snoc capital (take i chars) (getD chars i 0))
 
 -- what was answered says what was read
-pub given-passed : (x : Res Data) {v : Data} → G.the-variants.Is v ≡ givenOf x → x ≡ passed v
-given-passed (refused e) {v} h = absurd (let z : _≡_ {A = ℕ} 0 1 = cc in omega arith)
-given-passed (passed w) {v} h = ap passed (cc)
+abbrev pub givenBack : Given → Res Data
+givenBack (Is v) = passed v
+givenBack (Error e) = refused e
 
-pub given-refused : (x : Res Data) {e : ℕ} → G.the-variants.Error e ≡ givenOf x → x ≡ refused e
-given-refused (refused d) {e} h = ap refused (cc)
-given-refused (passed w) {e} h = absurd (let z : _≡_ {A = ℕ} 0 1 = cc in omega arith)
+given-back : (x : Res Data) → givenBack (givenOf x) ≡ x
+given-back (refused e) = refl
+given-back (passed v) = refl
+
+pub given-told : (x : Res Data) {r : Given} → r ≡ givenOf x → x ≡ givenBack r
+given-told = told givenOf givenBack given-back
 
 -- the data are what stands behind the address
 pub data-behind : (mode : Mode) (parameter k at : ℕ) (cs : List ℕ) {r : Given} → drop at cs ≡ rest cs

@@ -10,23 +10,23 @@ use Rattle.lines.proofs.is_next_at.Tie as tie
 mul-if1 : tie.Need-mul-if1
 mul-if1 c = search needs
 
+add-if1 : tie.Need-add-if1
+add-if1 c = search needs
+
 shared-slice-read-if1 : tie.Need-shared-slice-read-if1
 shared-slice-read-if1 c = search needs
 
 returns : tie.Need-returns
-returns c = sym (by-the-first (c .before .before .before .args .c) (c .before .before .before .args .p .now) (c .before .before .before .args .i) (c .if1 .taken))
+returns c = sym (by-the-second (c .before .before .before .args .c) (c .before .before .before .args .p .now) (c .before .before .before .args .i) (c .if1 .taken))
 
 mul-if2 : tie.Need-mul-if2
 mul-if2 c = search needs
-
-add-if2 : tie.Need-add-if2
-add-if2 c = search needs
 
 shared-slice-read-if2 : tie.Need-shared-slice-read-if2
 shared-slice-read-if2 c = search needs
 
 returns-2 : tie.Need-returns-2
-returns-2 c = sym (by-the-second (c .before .before .before .before .before .args .c) (c .before .before .before .before .before .args .p .now) (c .before .before .before .before .before .args .i) (c .if2 .taken))
+returns-2 c = sym (by-the-first (c .before .before .before .before .before .args .c) (c .before .before .before .before .before .args .p .now) (c .before .before .before .before .before .args .i) (c .if2 .taken))
 
 line-at-requires : tie.Need-line-at-requires
 line-at-requires c κs = search needs
@@ -42,10 +42,10 @@ is-next-at-spec =
     tie.close
     (tie.spec
     mul-if1
+    add-if1
     shared-slice-read-if1
     returns
     mul-if2
-    add-if2
     shared-slice-read-if2
     returns-2
     line-at-requires

@@ -3,7 +3,7 @@
 use Prim.Native.Nat.{_*_}
 use mathlib.Core.Path.{ap, _∙_}
 use borrow.Author.Needs.{needs}
-use Rattle.lines.proofs.Writing.{rest-of}
+use Rattle.formats.proofs.Parts.{rest-of}
 use Rattle.lines.specs.Line.{readLine}
 use Rattle.lines.specs.Program.{lineAt}
 use Rattle.lines.proofs.line_at.Statement.{statement}

@@ -3,7 +3,7 @@
 use Prim.Native.Nat.{_*_}
 use mathlib.Core.Path.{_∙_}
 use borrow.Author.Needs.{needs}
-use Rattle.lines.proofs.Writing.{put-part}
+use Rattle.formats.proofs.Parts.{given-back}
 use Rattle.lines.specs.Program.{putLine}
 use Rattle.lines.proofs.put_line.Statement.{statement}
 use Rattle.lines.proofs.put_line.Tie as tie
@@ -34,7 +34,7 @@ same-length c = search needs
 
 returns : tie.Need-returns
 unfolding putLine
-returns c = let a = c .before .before .before .before .before .args in put-part (8 * a .k) 8 (a .p .now) (c .before .before .write-line .last .0) ∙ simp (c .before .before .write-line .ensures)
+returns c = let a = c .before .before .before .before .before .args in given-back (8 * a .k) 8 (a .p .now) (c .before .before .write-line .last .0) ∙ simp (c .before .before .write-line .ensures)
 
 pub put-line-spec : {M : Type 1} → statement M
 put-line-spec =

@@ -1,10 +1,11 @@
--- `lines::write_line` meets its contract: a part of eight bytes that is written over whole is what was written.
+-- `lines::write_line` meets its contract: a part of eight bytes that is written written-over whole is what was written.
 -- Assumes nothing.
 use mathlib.Core.Path.{_∙_}
 use lib.ListN.{length-set}
 use native.Mathlib.Omega.{arith}
 use borrow.Author.Needs.{needs}
-use Rattle.lines.proofs.Writing.{over, eightOf, eight-bytes}
+use Rattle.formats.proofs.Parts.{written-over}
+use Rattle.lines.proofs.Writing.{eightOf, eight-bytes}
 use Rattle.lines.proofs.write_line.Statement.{statement}
 use Rattle.lines.proofs.write_line.Tie as tie
 
@@ -63,7 +64,7 @@ same-length : tie.Need-same-length
 same-length c = simp length-set
 
 returns : tie.Need-returns
-returns c = over (eightOf (c .bytes-of .result)) (c .before .before .args .to .now) (c .before .before .pre) ∙ eight-bytes _ _ (c .bytes-of .ensures)
+returns c = written-over (eightOf (c .bytes-of .result)) (c .before .before .args .to .now) (c .before .before .pre) ∙ eight-bytes _ _ (c .bytes-of .ensures)
 
 pub write-line-spec : {M : Type 1} → statement M
 write-line-spec =

@@ -5,8 +5,8 @@ use borrow.Author.Tests.{eq-eqb, ne-eqb, le-leb, lt-leb}
 use Rattle.formats.specs.Checks.{_>>=_, _>>_, _orElse_}
 use Rattle.formats.specs.Digits.{hIn, dIn}
 use Rattle.texts.specs.Text.{lineIn}
-use Rattle.formats.proofs.Answers.{byte-passed, byte-refused}
-use Rattle.texts.proofs.Answers.{parsed-passed, parsed-refused}
+use Rattle.formats.proofs.Answers.{byte-told}
+use Rattle.texts.proofs.Answers.{parsed-told}
 use Rattle.wire.specs.Command.{dataIn}
 use borrow.Author.Needs.{needs}
 use Rattle.wire.proofs.data_in.Statement.{statement}
@@ -23,11 +23,11 @@ enum-known-e c = search needs
 
 returns : tie.Need-returns
 unfolding dataIn _>>=_ _>>_ _orElse_
-returns c = simp (le-leb _ _ (c .before .before .before .before .if1 .taken), parsed-refused (lineIn (c .before .before .before .before .before .before .args .cs .now)) (sym (c .before .e .given .1) ∙ c .before .before .before .line-in .ensures))
+returns c = simp (le-leb _ _ (c .before .before .before .before .if1 .taken), parsed-told (lineIn (c .before .before .before .before .before .before .args .cs .now)) (sym (c .before .e .given .1) ∙ c .before .before .before .line-in .ensures))
 
 returns-2 : tie.Need-returns-2
 unfolding dataIn _>>=_ _>>_ _orElse_
-returns-2 c = simp (le-leb _ _ (c .before .before .before .before .if1 .taken), parsed-passed (lineIn (c .before .before .before .before .before .before .args .cs .now)) (sym (c .before .l .given .1) ∙ c .before .before .before .line-in .ensures))
+returns-2 c = simp (le-leb _ _ (c .before .before .before .before .if1 .taken), parsed-told (lineIn (c .before .before .before .before .before .before .args .cs .now)) (sym (c .before .l .given .1) ∙ c .before .before .before .line-in .ensures))
 
 h-in-requires : tie.Need-h-in-requires
 h-in-requires c κs = search needs
@@ -40,11 +40,11 @@ enum-known-e-2 c = search needs
 
 returns-3 : tie.Need-returns-3
 unfolding dataIn _>>=_ _>>_ _orElse_
-returns-3 c = simp (lt-leb _ _ (c .before .before .before .before .before .if1 .left), le-leb _ _ (c .before .before .before .before .if2 .taken), byte-refused (hIn (c .before .before .before .before .before .before .before .args .cs .now)) (sym (c .before .e2 .given .1) ∙ c .before .before .before .h-in .ensures))
+returns-3 c = simp (lt-leb _ _ (c .before .before .before .before .before .if1 .left), le-leb _ _ (c .before .before .before .before .if2 .taken), byte-told (hIn (c .before .before .before .before .before .before .before .args .cs .now)) (sym (c .before .e2 .given .1) ∙ c .before .before .before .h-in .ensures))
 
 returns-4 : tie.Need-returns-4
 unfolding dataIn _>>=_ _>>_ _orElse_
-returns-4 c = simp (lt-leb _ _ (c .before .before .before .before .before .if1 .left), le-leb _ _ (c .before .before .before .before .if2 .taken), byte-passed (hIn (c .before .before .before .before .before .before .before .args .cs .now)) (sym (c .before .x .given .1) ∙ c .before .before .before .h-in .ensures))
+returns-4 c = simp (lt-leb _ _ (c .before .before .before .before .before .if1 .left), le-leb _ _ (c .before .before .before .before .if2 .taken), byte-told (hIn (c .before .before .before .before .before .before .before .args .cs .now)) (sym (c .before .x .given .1) ∙ c .before .before .before .h-in .ensures))
 
 d-in-requires : tie.Need-d-in-requires
 d-in-requires c κs = search needs
@@ -57,11 +57,11 @@ enum-known-e-3 c = search needs
 
 returns-5 : tie.Need-returns-5
 unfolding dataIn _>>=_ _>>_ _orElse_
-returns-5 c = simp (lt-leb _ _ (c .before .before .before .before .before .before .if1 .left), lt-leb _ _ (c .before .before .before .before .before .if2 .left), eq-eqb _ _ (c .before .before .before .before .if3 .taken), byte-refused (dIn (c .before .before .before .before .before .before .before .before .args .cs .now)) (sym (c .before .e3 .given .1) ∙ c .before .before .before .d-in .ensures))
+returns-5 c = simp (lt-leb _ _ (c .before .before .before .before .before .before .if1 .left), lt-leb _ _ (c .before .before .before .before .before .if2 .left), eq-eqb _ _ (c .before .before .before .before .if3 .taken), byte-told (dIn (c .before .before .before .before .before .before .before .before .args .cs .now)) (sym (c .before .e3 .given .1) ∙ c .before .before .before .d-in .ensures))
 
 returns-6 : tie.Need-returns-6
 unfolding dataIn _>>=_ _>>_ _orElse_
-returns-6 c = simp (lt-leb _ _ (c .before .before .before .before .before .before .if1 .left), lt-leb _ _ (c .before .before .before .before .before .if2 .left), eq-eqb _ _ (c .before .before .before .before .if3 .taken), byte-passed (dIn (c .before .before .before .before .before .before .before .before .args .cs .now)) (sym (c .before .v .given .1) ∙ c .before .before .before .d-in .ensures))
+returns-6 c = simp (lt-leb _ _ (c .before .before .before .before .before .before .if1 .left), lt-leb _ _ (c .before .before .before .before .before .if2 .left), eq-eqb _ _ (c .before .before .before .before .if3 .taken), byte-told (dIn (c .before .before .before .before .before .before .before .before .args .cs .now)) (sym (c .before .v .given .1) ∙ c .before .before .before .d-in .ensures))
 
 special-in-requires : tie.Need-special-in-requires
 special-in-requires c κs = search needs

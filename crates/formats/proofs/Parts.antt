@@ -1,4 +1,4 @@
--- Laws of parts of a list: one that is written over, one that is lent and comes back, one that is copied.
+-- Laws of parts of a list: one that is written over, one that is lent and comes back, one that is copied, and the rest of it.
 -- Assumes nothing.
 use mathlib.Core.Path.{_≡_, ap, _∙_}
 use Prim.Native.Nat.{ℕ, _+_, _-_, _<_}
@@ -6,8 +6,8 @@ use native.Mathlib.Nat.{zero-add}
 use native.Mathlib.Numerals.{add-one}
 use native.Mathlib.Omega.{arith}
 use mathlib.Core.List.{List, [], _++_, append-nil}
-use lib.ListN.{length, take, drop, set, getD}
-use lib.Seq.{sets, sets-eq, drop-length, drop-drop, paste-suc}
+use lib.ListN.{length, take, drop, set, getD, length-drop}
+use lib.Seq.{sets, sets-eq, take-all, drop-length, drop-drop, paste-suc}
 use borrow.Rule.Slice.PartMut.{putMid}
 
 -- a list that is written over whole, from its first element to its last, is what was written
@@ -27,3 +27,7 @@ pub copied-more : (from to : List ℕ) (i : ℕ) → i < length from → i < len
 copied-more from to i hf ht =
     let h : 0 + i < length to = omega arith in
     rw add-one (simp zero-add at (paste-suc to 0 from i 0 h hf))
+
+-- what a lent part `&xs[a..]` holds
+pub rest-of : (a : ℕ) (xs : List ℕ) → take (length xs - a) (drop a xs) ≡ drop a xs
+rest-of a xs = take-all (length xs - a) (drop a xs) (rw length-drop (omega arith))
