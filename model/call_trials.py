@@ -8,7 +8,7 @@ from trial_script import (BLINK, END, GUARD, OUT, PROGRAM, SAVED, alter, byte, e
 
 @scenario
 def before_any_power_on():
-    # "A refused power-on returns the power-on state with a log length of 0, so every later call is refused."
+    # "A refused power-on returns the power-on state with a log length of 0, so every later call on it is refused."
     refused_all()
     for which in (PROGRAM, SAVED):
         alter(which, 1600, GUARD)

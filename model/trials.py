@@ -187,7 +187,7 @@ def altered_program():
 
 @scenario
 def load_and_save():
-    # "Power-on and 007 load the saved copy in that cleaned form; 008 saves ... likewise cleaned, leaving the area."
+    # "Power-on and command 007 load the saved copy in that cleaned form; 008 saves ... likewise cleaned, leaving the area."
     dirty = "53000000000A270F 5300000000FF2710 4604270F00000000 4E04000000000000 4E04000001000000 0102030405060708"
     clean = "53000000000A270F" + END + "4604270F00000000 4E04000000000000" + END + END
     lend(1600, 1600, 24, 16)

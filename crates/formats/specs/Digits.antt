@@ -48,7 +48,7 @@ numberIn base e cs = do
   all (isDigit base) cs orElse e
   passed (number base (map digitValue cs))
 
--- ---- the paper's formats, shown and read; "Characters left over or missing: E002", "Data not in its format, d above 255: E003"
+-- ---- the paper's formats, shown and read; "Characters left over or missing: E002", "Data not in its format, d above 255, [...]: E003"
 
 abbrev pub h : ℕ → List ℕ
 h v = shown 16 2 v

@@ -1,4 +1,4 @@
--- The three ways in which a command names an address, for the promises that speak of "that address".
+-- The three ways in which a command names an address, for the promises that speak of the address of a line.
 -- 01, 'The wire', check 3: "Address: three digits, or I (this direction's last address plus one) or D (minus one)."
 use Prim.Native.Nat.{ℕ, _+_}
 use mathlib.Core.Path.{_≡_}
