@@ -115,7 +115,7 @@ def main():
 def outside():
     rows = [('`host`: header, programs and tests in C, shell and Python', ['host/*', 'host/tests/*.py', 'host/compare/*']),
             ('`independent`: the second box, in C', ['independent/*']), ('`model`: the third reading, in Python', ['model/*.py']),
-            ('`tools`', ['tools/*.py'])]
+            ('`tools`', ['tools/*'])]
     text = 'Outside Rattle, lines in all:\n\n| Folder | lines |\n|---|---:|\n'
     for name, patterns in rows:
         paths = [path for pattern in patterns for path in glob.glob(os.path.join(ROOT, pattern)) if os.path.isfile(path)]
