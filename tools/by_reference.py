@@ -84,9 +84,9 @@ use Rattle.controller.proofs.Answer as O
 use Rattle.controller.proofs.Answer.Laws as O′
 use Rattle.deeds.specs.Values.{areas}
 use Rattle.calls.specs.Values.{after}
-use Rattle.nizhalepu.specs.declared.Said.{Said}
 use Rattle.nizhalepu.proofs.Said as S
-use Rattle.nizhalepu.proofs.Said.Laws as S′'''
+use Rattle.nizhalepu.proofs.Said.Laws as S′
+use Rattle.nizhalepu.proofs.Saying.{vals, said, said-val}'''
 
 
 def main():

@@ -132,15 +132,6 @@ Arg = {product_of(['RefT Controller'] + ['ℕ' if k == NUM else 'RefT (List ℕ)
 abbrev stayed : Stays (f.ended .signature .params) (f.ended .kept)
 stayed = {tuple_of(['stay-ref (0 ∷ []) tt (plain (λ _. T.the-row))'] + [self.stays(p, k) for p, k in self.parameters])}
 
-abbrev vals : Controller → List Val
-vals h = LL.vals T.the-type T′.the-laws h
-
-abbrev said : Answer → Said
-said r = record {{ refusal = r .refusal; lines = r .lines; written = r .written }}
-
-abbrev said-val : Answer → Val
-said-val r = only (LL.vals S.the-type S′.the-laws (said r))
-
 module _ {{M : Type 1}} (𝓤 : URA M) (H : Heap 𝓤) (A : Atoms 𝓤) (at-mem : Memory → SProp 𝓤) (run : Routine → Fun 𝓤) where
   -- the by-value call's contract
   abbrev Step : Contract 𝓤

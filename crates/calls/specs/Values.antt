@@ -1,17 +1,10 @@
 -- What the calls of the code return, in the words of the definitions.
 use Prim.Native.Nat.{ℕ}
-use mathlib.Core.Bool.{not}
-use mathlib.Core.List.{List}
-use lib.Dec.{eqb}
-use Rattle.formats.specs.Checks.{if_then_else_, Res, refused, passed}
-use Rattle.log.specs.declared.Change.{Change}
-use Rattle.log.specs.declared.Log.{Log}
-use Rattle.log.specs.Log.{Logged, addChange}
-use Rattle.controller.specs.declared.Controller.{Controller}
+use Rattle.formats.specs.Checks.{Res, refused, passed}
 use Rattle.controller.specs.declared.Answer.{Answer}
 use Rattle.controller.specs.Controller.{Areas}
 use Rattle.controller.specs.Deeds.{Did}
-use Rattle.controller.specs.Calls.{loggedBy, After, accepted}
+use Rattle.controller.specs.Calls.{changed, loggedBy, After, accepted}
 
 -- what is returned, with the areas after the call
 abbrev pub after : Answer → Areas → After
@@ -21,10 +14,6 @@ after r a = record { answer = r; areas = a }
 abbrev pub refusalOf : Res (Unit {0}) → ℕ
 refusalOf (refused n) = n
 refusalOf (passed ok) = 0
-
--- a change by that cause, in the state after it
-abbrev pub changed : ℕ → Controller → Change
-changed cause c = record { cause = cause; tick = c .ticks; word = c .run .outputs }
 
 -- what was done, logged and answered
 abbrev pub answering : ℕ → ℕ → Did → After

@@ -16,7 +16,7 @@ use Rattle.controller.specs.declared.Controller.{Controller}
 use Rattle.controller.specs.Controller.{Areas}
 use Rattle.controller.specs.Refusals.{Call, powerOn, byte, tick, press, emptying, isProgram, isLog, isSameLog, isReply, mayTick, isButton, isDestination, check}
 use Rattle.controller.specs.Effects.{isPowerOn}
-use Rattle.controller.specs.Calls.{does, given, logged, After, accepted, settled, call, refusedWith}
+use Rattle.controller.specs.Calls.{does, logged, After, accepted, settled, call, refusedWith}
 
 -- ---- the numbers
 

@@ -44,9 +44,11 @@ abbrev pub cause : Res Asked → ℕ → ℕ
 cause command line = if writesOutputs command then 255 else if eqb (specialCode command) 6 then 254 else line
 
 -- "tick count", the count after the call; "value is the new word"; the line is that after the call, which set the word
+abbrev pub changed : ℕ → Controller → Change
+changed cause after = record { cause = cause; tick = after .ticks; word = after .run .outputs }
+
 abbrev pub changeOf : Call → Controller → Controller → Change
-changeOf k before after =
-    record { cause = cause (finished k before) (after .run .line); tick = after .ticks; word = after .run .outputs }
+changeOf k before after = changed (cause (finished k before) (after .run .line)) after
 
 -- the log and its area, where the word before the call was `before`
 abbrev pub loggedBy : ℕ → Change → Log → List ℕ → Logged

@@ -8,7 +8,6 @@ use mathlib.Core.List.{List, map}
 use lib.ListN.{length}
 use Rattle.formats.specs.Checks.{Res, refused, passed, _>>_, _orElse_, all}
 use Rattle.formats.specs.Digits.{number, digitValue, isDigit, numberIn}
-use Rattle.formats.specs.declared.Number.{Number}
 use Rattle.formats.specs.declared.Number.the-variants.{Is, No}
 use Rattle.formats.specs.declared.Byte.{Byte}
 use Rattle.formats.specs.declared.Byte.the-variants.{Is as IsByte, Error}

@@ -9,15 +9,13 @@ use mathlib.Core.Bool.{Bool, true, false, _&&_}
 use mathlib.Core.List.{List, [], _∷_, _++_, map, append-nil, append-assoc}
 use lib.ListN.{length, take, drop, getD, set, length-map}
 use lib.Seq.{take-suc, take-all, length-take-le, paste, paste-suc}
-use lib.Dec.{ltb}
 use borrow.Author.Tests.{lt-ltb, le-ltb}
-use Rattle.formats.specs.Checks.{Res, refused, passed, _>>_, _orElse_, all}
+use Rattle.formats.specs.Checks.{_>>_, _orElse_, all}
 use Rattle.formats.specs.Digits.{digits, numberAfter, number, digitChar, digitValue, isDigit, shown, numberIn}
-use Rattle.formats.specs.declared.Number.{Number}
 use Rattle.formats.specs.declared.Number.the-variants.{Is, No}
 use Rattle.formats.specs.Values.{numberOf}
-use Rattle.formats.proofs.Checks.{both-true, all-snoc}
-use Rattle.formats.proofs.Digits.{isBelow, number-snoc, number-below}
+use Rattle.formats.proofs.Checks.{all-snoc}
+use Rattle.formats.proofs.Digits.{number-snoc, number-below}
 use Rattle.formats.proofs.Characters.{all-values}
 
 pub map-snoc : (f : ℕ → ℕ) (xs : List ℕ) (x : ℕ) → map f (xs ++ (x ∷ [])) ≡ map f xs ++ (f x ∷ [])

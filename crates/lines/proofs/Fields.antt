@@ -1,17 +1,16 @@
 -- The numbers in a line's eight bytes, byte by byte, and the line that they say, by the first byte.
 -- Assumes nothing.
-use mathlib.Core.Path.{_≡_, refl, sym, _∙_}
-use Prim.Native.Nat.{ℕ, suc, _+_, _*_, _≤_, _<_}
+use mathlib.Core.Path.{_≡_, sym, _∙_}
+use Prim.Native.Nat.{ℕ, suc, _+_, _*_, _≤_}
 use mathlib.Core.Bool.{_&&_}
-use mathlib.Core.List.{List, [], _∷_}
-use lib.ListN.{length, take, drop, getD}
+use mathlib.Core.List.{List}
+use lib.ListN.{length, getD}
 use lib.Seq.{drop-cons}
 use lib.Dec.{leb, eqb}
 use native.Mathlib.Omega.{arith}
 use borrow.Author.Tests.{ne-eqb}
 use Rattle.formats.specs.Checks.{if_then_else_}
 use Rattle.formats.specs.Digits.{numberAfter}
-use Rattle.lines.specs.declared.Line.{Line}
 use Rattle.lines.specs.declared.Line.the-variants.{State, For, Next}
 use Rattle.lines.specs.Line.{endMark, isCounter, field, readLine}
 

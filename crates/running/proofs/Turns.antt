@@ -1,9 +1,9 @@
 -- The lines of one call, line by line.
 -- Assumes nothing.
-use Prim.Native.Nat.{ℕ, zero, suc, _+_, _-_, _≤_, _<_}
+use Prim.Native.Nat.{ℕ, suc, _+_, _-_, _≤_, _<_}
 use native.Mathlib.Omega.{arith}
 use mathlib.Core.Path.{_≡_, refl, sym, ap, _∙_}
-use mathlib.Core.Bool.{Bool, true, false}
+use mathlib.Core.Bool.{true}
 use mathlib.Core.List.{List, [], _∷_}
 use lib.Dec.{leb, eqb}
 use borrow.Author.Tests.{leb-true}
@@ -15,15 +15,12 @@ use Rattle.lines.specs.declared.Line.the-variants.{State, For, Next}
 use Rattle.lines.specs.Line.{isCounter}
 use Rattle.lines.specs.Program.{lineAt}
 use Rattle.lines.proofs.Line as L
-use Rattle.lines.proofs.Lines.{Ranged}
 use Rattle.lines.proofs.Places.{line-ranged}
 use Rattle.running.specs.declared.Run.{Run}
-use Rattle.running.specs.declared.How.{How}
 use Rattle.running.specs.declared.How.the-variants.{Holds, Ends, GoesOn}
 use Rattle.running.specs.declared.Step.{Step}
-use Rattle.running.specs.declared.Ran.{Ran}
 use Rattle.running.specs.Running.{onward, tick, runLine, isForOrNext, counted, stops, rests, follow, step, runDue}
-use Rattle.running.proofs.Invariant.{Going, GoingStep, onward-going, step-going}
+use Rattle.running.proofs.Invariant.{Going, onward-going, step-going}
 use Rattle.running.proofs.Waiting.{due-at}
 
 -- ---- the counters that lines name

@@ -5,14 +5,13 @@ use Prim.Native.Nat.{ℕ, _+_, _%_, _^_, _≤_, _<_}
 use mathlib.Core.Logic.{_≢_}
 use native.Mathlib.Omega.{arith}
 use native.Mathlib.Nat.{mod-eq-of-lt}
-use mathlib.Core.Bool.{Bool, true, false, _&&_}
+use mathlib.Core.Bool.{Bool, true, false}
 use mathlib.Core.List.{List, map}
 use lib.ListN.{length}
 use lib.Dec.{leb}
 use borrow.Author.Tests.{leb-true}
 use Rattle.formats.specs.Checks.{Res, refused, passed, _>>=_, _>>_, _orElse_, all, Ok}
 use Rattle.formats.specs.Digits.{number, digitValue, isDigit, numberIn}
-use Rattle.formats.specs.declared.Number.{Number}
 use Rattle.formats.specs.declared.Number.the-variants.{Is, No}
 use Rattle.formats.specs.Values.{numberOf}
 use Rattle.formats.proofs.Checks.{both-true, ok-at, ok-passed, ok-guard}

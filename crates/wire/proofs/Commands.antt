@@ -17,9 +17,7 @@ use Rattle.texts.proofs.Texts.{Sent, accepted-shows, text-accepted}
 use Rattle.wire.specs.declared.Wire.{Wire}
 use Rattle.special.specs.declared.Mode.{Mode}
 use Rattle.special.specs.declared.Mode.the-variants.{Stop}
-use Rattle.special.specs.declared.Special.{Special}
-use Rattle.wire.specs.declared.Data.{Data}
-use Rattle.wire.specs.declared.Data.the-variants.{WriteLine, WriteOutputs, WriteParameter, WriteSpecial}
+use Rattle.wire.specs.declared.Data.the-variants.{WriteLine}
 use Rattle.wire.specs.declared.Asked.{Asked}
 use Rattle.wire.specs.declared.Asked.the-variants.{Read, Write}
 use Rattle.wire.specs.Collecting.{sent}

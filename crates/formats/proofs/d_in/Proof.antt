@@ -1,6 +1,6 @@
 -- `formats::d_in` meets its contract.
 -- Assumes nothing.
-use mathlib.Core.Path.{_≡_, sym, _∙_}
+use mathlib.Core.Path.{sym, _∙_}
 use borrow.Author.Tests.{eq-eqb, ne-eqb, le-leb, lt-leb}
 use Rattle.formats.specs.Checks.{_>>=_, _>>_, _orElse_}
 use Rattle.formats.specs.Digits.{dIn}

@@ -1,9 +1,8 @@
 -- `formats::h_in` meets its contract.
 -- Assumes nothing.
-use mathlib.Core.Path.{_≡_, sym, ap, _∙_}
-use native.Mathlib.Omega.{arith}
-use borrow.Author.Tests.{eq-eqb, ne-eqb, le-leb, lt-leb}
-use Rattle.formats.specs.Checks.{_>>=_, _>>_, _orElse_}
+use mathlib.Core.Path.{sym, _∙_}
+use borrow.Author.Tests.{eq-eqb, ne-eqb}
+use Rattle.formats.specs.Checks.{_>>_, _orElse_}
 use Prim.Native.Nat.{_^_, _<_}
 use native.Mathlib.Nat.{mod-eq-of-lt}
 use Rattle.formats.specs.Digits.{hIn}

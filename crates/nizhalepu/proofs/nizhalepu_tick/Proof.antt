@@ -49,9 +49,9 @@ use Rattle.controller.proofs.Answer as O
 use Rattle.controller.proofs.Answer.Laws as O′
 use Rattle.deeds.specs.Values.{areas}
 use Rattle.calls.specs.Values.{after}
-use Rattle.nizhalepu.specs.declared.Said.{Said}
 use Rattle.nizhalepu.proofs.Said as S
 use Rattle.nizhalepu.proofs.Said.Laws as S′
+use Rattle.nizhalepu.proofs.Saying.{vals, said, said-val}
 use Rattle.calls.proofs.tick as step
 use Rattle.calls.proofs.tick.Symbol as step-def
 use Rattle.calls.proofs.tick.Symbol.{name as #step}
@@ -67,15 +67,6 @@ Arg = RefT Controller × (RefT (List ℕ) × (RefT (List ℕ) × (Unit {0})))
 -- the record stays lent, at its last value; what is passed on is given up
 abbrev stayed : Stays (f.ended .signature .params) (f.ended .kept)
 stayed = (stay-ref (0 ∷ []) tt (plain (λ _. T.the-row)), (stay-dropped (shrSliceOf (1 ∷ []) tt (plain (λ _. u8))) yes, (gave-slice (2 ∷ []) tt (plain (λ _. u8)), tt)))
-
-abbrev vals : Controller → List Val
-vals h = LL.vals T.the-type T′.the-laws h
-
-abbrev said : Answer → Said
-said r = record { refusal = r .refusal; lines = r .lines; written = r .written }
-
-abbrev said-val : Answer → Val
-said-val r = only (LL.vals S.the-type S′.the-laws (said r))
 
 module _ {M : Type 1} (𝓤 : URA M) (H : Heap 𝓤) (A : Atoms 𝓤) (at-mem : Memory → SProp 𝓤) (run : Routine → Fun 𝓤) where
   -- the by-value call's contract

@@ -1,12 +1,9 @@
 -- `texts::next_in` meets its contract.
 -- Assumes nothing.
-use mathlib.Core.Path.{_≡_, sym, _∙_}
-use borrow.Author.Tests.{eq-eqb, ne-eqb, le-leb, lt-leb, lt-ltb}
+use mathlib.Core.Path.{sym, _∙_}
 use Rattle.formats.specs.Checks.{_>>=_, _>>_, _orElse_}
-use Rattle.formats.proofs.Answers.{is-number, no-number}
 use Rattle.texts.specs.Text.{nextIn}
-use Rattle.texts.proofs.Answers.{time-fits, is-counter, no-counter, counter-fits}
-use native.Mathlib.Omega.{arith}
+use Rattle.texts.proofs.Answers.{is-counter, no-counter, counter-fits}
 use borrow.Author.Needs.{needs}
 use Rattle.texts.proofs.next_in.Statement.{statement}
 use Rattle.texts.proofs.next_in.Tie as tie
