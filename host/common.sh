@@ -1,17 +1,18 @@
 # common.sh: what host/build and host/test share: where things are, and how a C program is compiled, linked and run.
-# Programs are x86-64. On an Arm machine the toolchain's own emulator runs them. Sourced by bash.
+# Programs are x86-64; host/kit.sh says how they are run. Sourced by bash.
 
 host=$(CDPATH='' cd -- "$(dirname -- "${BASH_SOURCE[0]}")" && pwd)
 top=$(dirname "$host")
 out=$top/target/host
 archive=$top/target/staticlib/libnizhalepu.a
-machine=$(uname -m)
 damages=10 # the errors that independent/ can be built with
 
 fail() {
     echo "host/$(basename "$0"): $*" >&2
     exit 1
 }
+
+. "$host/kit.sh" || exit 1
 
 # install_packages PACKAGE...: from Debian's packages, as root.
 install_packages() {
@@ -26,10 +27,13 @@ install_packages() {
         fail "apt-get cannot install: $*"
 }
 
-# The compiler, the linker and the C headers. clang brings the headers of the machine it runs on; on Arm those of x86-64 are a
-# package of their own.
+# The toolchain, then the compiler, the linker and the C headers. clang brings the headers of the machine it runs on; on Arm those of
+# x86-64 are a package of their own.
 find_tools() {
     local missing=()
+    find_kit
+    lib=$kit/toolchain/lib
+    [ -e "$lib/Scrt1.o" ] || fail "no C start files in $lib"
     headers=()
     command -v clang >/dev/null || missing+=(clang)
     command -v ld.lld >/dev/null || missing+=(lld)
@@ -39,21 +43,8 @@ find_tools() {
         aarch64)
             headers=(-isystem /usr/x86_64-linux-gnu/include)
             [ -e /usr/x86_64-linux-gnu/include/stdio.h ] || missing+=(libc6-dev-amd64-cross) ;;
-        *)
-            fail "no way to run x86-64 programs on $machine: the toolchain has an emulator for aarch64 alone" ;;
     esac
     [ ${#missing[@]} = 0 ] || install_packages "${missing[@]}"
-}
-
-# The toolchain's folder: the guide that `rt doc` names stands one folder down in it.
-find_kit() {
-    local guide
-    guide=$(rt doc) || fail "'rt doc' fails: is the toolchain installed?"
-    kit=$(dirname "$(dirname "$guide")")
-    lib=$kit/toolchain/lib
-    [ -e "$lib/Scrt1.o" ] || fail "no C start files in $lib"
-    emulator=$kit/on/aarch64/toolchain
-    [ "$machine" = x86_64 ] || [ -x "$emulator/bin/qemu-x86_64" ] || fail "no emulator in $emulator/bin"
 }
 
 # compile SOURCE OBJECT [FLAG...]
@@ -77,7 +68,10 @@ link_program() {
 
 # wrap ELF SCRIPT
 wrap() {
-    printf '#!/usr/bin/env bash\nexec %q %q --library-path %q %q "$@"\n' \
-        "$emulator/bin/qemu-x86_64" "$emulator/lib/ld-linux-x86-64.so.2" "$emulator/lib" "$1" >"$2" || fail "cannot write $2"
+    {
+        printf '#!/usr/bin/env bash\nexec'
+        printf ' %q' "${runner[@]}" "$1"
+        printf ' "$@"\n'
+    } >"$2" || fail "cannot write $2"
     chmod +x "$2" || fail "cannot make $2 a program"
 }

@@ -8,18 +8,18 @@ With --check nothing is written: it says which file is not what the script would
 The prover's own walk does not cover a reference to a struct, so each of these functions has a walk of its MIR by hand. All five walks
 are one walk, at different parameters:
 
-    fn NAME(state: &mut Controller, PARAMETERS) -> Said {
-        let answer = calls::CALL(*state, PARAMETERS);        (power-on: without *state)
-        *state = answer.state;
+    fn NAME(state: &mut SwitchBox, PARAMETERS) -> Said {
+        let answer = SwitchBox::CALL(*state, PARAMETERS);    (power-on: without *state)
+        *state = answer.next;
         Said { refusal: answer.refusal, lines: answer.lines, written: answer.written }
     }
 
-The record's borrow is opened, the record copied out and passed on with the parameters, which are given up for good; the state that came
+The record's borrow is opened, the record copied out and passed on with the parameters, which are given up for good; the box that came
 back is stored, the borrow closed at it, and the rest said. What the walk ends in is the by-value call's own equation."""
 import os
 import sys
 
-from walk import MUT, NUM, SHR, Walk
+from walk import CRATE, MUT, NUM, SHR, Walk
 
 ROOT = os.path.dirname(os.path.dirname(os.path.abspath(__file__)))
 
@@ -48,8 +48,10 @@ use prog.Wp.{Heap, Calls, Loops, WpFn, Tables}
 use ghost.Atoms.{Atoms, sem}
 use contract.Monad.{Fun, fact}
 use contract.Running.{givenOf, tables, tablesOf}
-use types.Kit.{Given, ‵, raw, _⊛_, some, later, _$_, _∵_, !, qed, by, move, keep, drop, use1, use2, split, join, pick, rewrite, fsplit, fsplit3, fjoin, fjoin3, feqI, feqL, suffices, frame, await, done}
-use types.Run.{look, look-raw, init, store-raw, forget, stop, hop, fld, from, load, addr, of-opd, assigns, and-then, no-more, land, returns, enter, alloc1, alloc0, params1, pass1, pass0, free1, free0}
+use types.Kit.{Given, Item, ⋆, ‵, raw, _⊛_, some, later, _$_, _∵_, !, qed, by, move, keep, drop, use1, use2, split, join}
+use types.Kit.{pick, rewrite, fsplit, fsplit3, fjoin, fjoin3, feqI, feqL, suffices, frame, await, done}
+use types.Run.{look, look-raw, init, store-raw, forget, stop, hop, fld, from, load, addr, of-opd, assigns, and-then}
+use types.Run.{no-more, land, returns, enter, alloc1, alloc0, params1, pass1, pass0, free1, free0}
 use types.Part.{agg, whole, sub, look-in}
 use types.SemTy.{Body}
 use sound.WpLaws.{FmC, fmOf, WpFn-mono}
@@ -69,31 +71,17 @@ use denote.Triple.Call.{calls-at}
 use denote.Triple.Entry.{onEntry}
 use denote.Triple.Spec.{Meets, tripleOf}
 use denote.Triple.Table.{entered, cited}
-use denote.Triple.Walked.{says, needs, Stays, stay-ref, gave-slice, stay-dropped, walkOf, AllGo, goes-dropped, goes-ref, goes-gave-slice, Walks, ends-at, walked, walk-meets}
+use denote.Triple.Walked.{says, needs, Stays, stay-ref, gave-slice, stay-dropped, walkOf, AllGo, goes-dropped}
+use denote.Triple.Walked.{goes-ref, goes-gave-slice, Walks, ends-at, walked, walk-meets}
 use denote.Triple.Clauses.{ensured, lasts}
-use denote.Exit.{yes}
-use Rattle.controller.specs.declared.Controller.{Controller}
-use Rattle.controller.specs.declared.Answer.{Answer}
-use Rattle.controller.specs.Controller.{fresh}
-use Rattle.controller.specs.Refusals.{powerOn, byte, tick, press, emptying}
-use Rattle.controller.specs.Calls.{call}
-use Rattle.controller.specs.Invariant.{Invariant}
-use Rattle.controller.proofs.Controller as T
-use Rattle.controller.proofs.Controller.Laws as T′
-use Rattle.controller.proofs.Answer as O
-use Rattle.controller.proofs.Answer.Laws as O′
-use Rattle.deeds.specs.Values.{areas}
-use Rattle.calls.specs.Values.{after}
-use Rattle.nizhalepu.proofs.Said as S
-use Rattle.nizhalepu.proofs.Said.Laws as S′
-use Rattle.nizhalepu.proofs.Saying.{vals, said, said-val}'''
+use denote.Exit.{yes}'''
 
 
 def main():
     differ = 0
     for name, call in CALLS.items():
         walk = Walk(name, USES, *call)
-        path = os.path.join(ROOT, 'crates/nizhalepu/proofs', walk.function, 'Proof.antt')
+        path = os.path.join(ROOT, CRATE, 'proofs', *walk.function.split('.'), 'Proof.antt')
         if '--check' in sys.argv[1:]:
             same = os.path.exists(path) and open(path).read() == walk.text()
             if not same:

@@ -2,9 +2,13 @@
 """Writes docs/FIGURES.md: lines, assumptions, time and memory by crate.
 
 Usage: python3 tools/figures.py [--gate]
+       python3 tools/figures.py --since REVISION
 
 Each crate is proved in a copy of the repository, one at a time, over those below it. With --gate the gate (.ci/run) is run in the copy
-too and its time and last line are written; without it the paper keeps the line that it has."""
+too and its time and last line are written; without it the paper keeps the line that it has.
+
+With --since nothing is proved or written: it prints the lines added and removed since the revision, by kind, as docs/CHANGES.md has
+them for each landing. All lines count, blank ones and comments too; a file that only moved counts for what changed in it."""
 import glob
 import os
 import re
@@ -112,10 +116,37 @@ def main():
         out.write(outside())
 
 
+KINDS = [('code', r'crates/\w+/src/'), ('definitions', r'crates/\w+/specs/'), ('laws', r'crates/\w+/proofs/\w+\.antt$'),
+         ('walks that `tools/by_reference.py` writes', r'crates/nizhalepu/proofs/'), ('proofs of functions', r'crates/\w+/proofs/'),
+         ('edits', r'crates/\w+/must-fail/'), ('`model`, `independent`', r'(model|independent)/'), ('`host`, `run`', r'host/|run$'),
+         ('`tools`', r'tools/'), ('papers', r'docs/|README'), ('other', r'')]
+
+
+def since(revision):
+    """the table of lines added and removed since a revision, by kind"""
+    said = subprocess.run(['git', 'diff', '--numstat', '-M', '-z', revision],
+                          cwd=ROOT, stdout=subprocess.PIPE, check=True, text=True).stdout
+    sums = {kind: [0, 0] for kind, _ in KINDS}
+    fields = iter(said.split('\0'))
+    for field in fields:
+        if not field:
+            continue
+        added, removed, path = field.split('\t')
+        if not path:  # it moved: the old name and the new one follow
+            next(fields)
+            path = next(fields)
+        for kind, pattern in KINDS:
+            if added != '-' and re.match(pattern, path):
+                sums[kind] = [sums[kind][0] + int(added), sums[kind][1] + int(removed)]
+                break
+    text = '| Lines | added | removed |\n|---|---:|---:|\n'
+    return text + ''.join(f'| {kind} | {a} | {r} |\n' for kind, (a, r) in sums.items() if a or r)
+
+
 def outside():
-    rows = [('`host`: header, programs and tests in C, shell and Python', ['host/*', 'host/tests/*.py', 'host/compare/*']),
+    rows = [('`host`: header, programs and tests in C, shell and Python', ['host/*', 'host/tests/*.py', 'host/tests/*.sh', 'host/compare/*']),
             ('`independent`: the second box, in C', ['independent/*']), ('`model`: the third reading, in Python', ['model/*.py']),
-            ('`tools`', ['tools/*'])]
+            ('`tools` and `run`', ['tools/*', 'run'])]
     text = 'Outside Rattle, lines in all:\n\n| Folder | lines |\n|---|---:|\n'
     for name, patterns in rows:
         paths = [path for pattern in patterns for path in glob.glob(os.path.join(ROOT, pattern)) if os.path.isfile(path)]
@@ -124,4 +155,7 @@ def outside():
 
 
 if __name__ == '__main__':
-    main()
+    if '--since' in sys.argv[1:]:
+        print(since(sys.argv[sys.argv.index('--since') + 1]), end='')
+    else:
+        main()

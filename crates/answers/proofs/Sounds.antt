@@ -13,7 +13,7 @@ use Rattle.wire.specs.Sound.{SoundData, Sound}
 use Rattle.controller.specs.declared.Controller.{Controller}
 use Rattle.controller.specs.Controller.{mode}
 use Rattle.controller.specs.Deeds.{emptyCollection, wroteTo}
-use Rattle.deeds.specs.Values.{askedOf}
+use Rattle.wire.specs.HeardCommand.{askedOf}
 
 -- by what was heard and what it asks
 pub sound-heard : (m : Mode) (n : ℕ) (x : Heard) {q : Asked} → x ≡ Is q → Ok (Sound m n) (askedOf x) → Sound m n q
@@ -26,6 +26,7 @@ pub sound-write : (m : Mode) (n : ℕ) (q : Asked) {k : ℕ} {x : Data} → q �
 sound-write m n q {k} {x} e h = rw e at h
 
 -- the address last written says nothing of the parameter, nor of the mode
-pub sound-after : (c : Controller) (k : ℕ) (x : Data) (s t : Controller) → s ≡ emptyCollection c → t ≡ wroteTo k s → SoundData (mode c) (c .panel .parameter) k x
+pub sound-after : (c : Controller) (k : ℕ) (x : Data) (s t : Controller) → s ≡ emptyCollection c → t ≡ wroteTo k s
+    → SoundData (mode c) (c .panel .parameter) k x
     → SoundData (mode t) (t .panel .parameter) k x
 sound-after c k x s t e f h = rw (f, e) h

@@ -4,24 +4,24 @@ ghost use mathlib.Core.Path.{_≡_};
 ghost use mathlib.Core.List.{List};
 ghost use Prim.Native.Nat.{ℕ, _≤_};
 ghost use lib.ListN.{length};
-ghost use Rattle.formats.specs.Values.{textOf};
-ghost use Rattle.formats.specs.Digits.{errorText};
+ghost use Rattle.formats.specs.NumbersAndTexts.{textOf};
 ghost use Rattle.formats.specs.Checks.{refused, passed, Ok, text};
 ghost use Rattle.wire.specs.Invariant.{WireInvariant};
 ghost use Rattle.wire.specs.declared.Asked.the-variants.{Read, Write};
-ghost use Rattle.wire.specs.Values.{heardOf};
+ghost use Rattle.wire.specs.HeardCommand.{heardOf, askedOf};
 ghost use Rattle.wire.specs.Collecting.{collect};
 ghost use Rattle.controller.specs.Controller.{mode, withWire};
 ghost use Rattle.controller.specs.Deeds.{read, readTo, wroteTo, ended, writing, emptyCollection, asked, answer};
-ghost use Rattle.deeds.specs.Values.{onAreas, areas, askedOf};
+ghost use Rattle.deeds.specs.OnAreas.{onAreas, areas};
 ghost use Rattle.wire.specs.Sound.{SoundData, Sound};
 use controller::Controller;
-use deeds::Done;
+use deeds::Unlogged;
 use formats::Text;
 use wire::Asked;
 use wire::Data;
 use wire::Heard;
 
+// "then collection starts empty"
 fn empty_collection(c: Controller) -> Controller
     ensures empty { λ r. ⌜ r ≡ emptyCollection c ⌝ }
 {
@@ -33,7 +33,7 @@ fn empty_collection(c: Controller) -> Controller
 }
 
 // The reply is written, with byte 13 at its end.
-fn said(d: Done, t: Text, reply: &mut [u8]) -> Done
+fn said(d: Unlogged, t: Text, reply: &mut [u8]) -> Unlogged
     requires { ⌜ (t .len ≤ 15) × (16 ≤ length (now reply)) ⌝ }
     ensures done { λ r. ⌜ ((p s l : List ℕ) → onAreas r (areas p s l (now (reply .exit))) ≡
         writing (ended (textOf t)) (onAreas d (areas p s l (now (reply .entry))))) ⌝ }
@@ -41,20 +41,14 @@ fn said(d: Done, t: Text, reply: &mut [u8]) -> Done
     let whole = t.with(13);
     let written = whole.put(reply);
     let state = d.state;
-    Done {
+    Unlogged {
         state,
         lines: d.lines,
         written,
     }
 }
 
-// E and the number of the error.
-fn error_text(e: u8) -> Text
-    ensures text { λ r. ⌜ (textOf r ≡ errorText e) × (r .len ≤ 15) ⌝ }
-{
-    Text::new().with(b'E').shown(10, 3, e as u32)
-}
-
+// "An accepted write answers OK."
 fn ok_text() -> Text
     ensures text { λ r. ⌜ (textOf r ≡ text "OK") × (r .len ≤ 15) ⌝ }
 {
@@ -67,11 +61,13 @@ fn having_read(c: Controller, k: u8) -> Controller
     ensures read { λ r. ⌜ r ≡ read k (readTo k c) ⌝ }
 {
     let mut s = c;
-    let next = k + 1;
-    s.wire.nextread = next;
+    let w = s.wire;
+    let moved = w.having_read(k);
+    s.wire = moved;
     if k == 212 {
-        s.panel.event = 0;
-        s.panel.unread = false;
+        let panel = s.panel;
+        let told = panel.with_event(0, false);
+        s.panel = told;
         return s;
     }
     s
@@ -83,8 +79,9 @@ fn having_written(c: Controller, k: u8) -> Controller
     ensures wrote { λ r. ⌜ r ≡ wroteTo k c ⌝ }
 {
     let mut s = c;
-    let next = k + 1;
-    s.wire.nextwrite = next;
+    let w = s.wire;
+    let moved = w.having_written(k);
+    s.wire = moved;
     s
 }
 
@@ -98,7 +95,7 @@ pub fn asked(c: Controller) -> Heard
 }
 
 // A read of k answers its value.
-fn answer_read(c: Controller, k: u8, program: &[u8], reply: &mut [u8]) -> Done
+fn answer_read(c: Controller, k: u8, program: &[u8], reply: &mut [u8]) -> Unlogged
     requires { ⌜ (length (now program) ≡ 1600) × (16 ≤ length (now reply)) × (k ≤ 216) ⌝ }
     ensures done { λ r. ⌜ ((s l : List ℕ) → onAreas r (areas (now (program .entry)) s l (now (reply .exit))) ≡
         answer (passed (Read k)) c (areas (now (program .entry)) s l (now (reply .entry)))) ⌝ }
@@ -107,7 +104,7 @@ fn answer_read(c: Controller, k: u8, program: &[u8], reply: &mut [u8]) -> Done
     let run = c.run;
     let t = variables::value(panel, run, c.paused, program, k);
     let s = having_read(empty_collection(c), k);
-    said(deeds::did(s), t, reply)
+    said(deeds::nothing_run(s), t, reply)
 }
 
 // A write that passed its checks is done, and answers OK.
@@ -118,7 +115,7 @@ fn answer_write(
     program: &mut [u8],
     saved: &mut [u8],
     reply: &mut [u8],
-) -> Done
+) -> Unlogged
     requires { ⌜ (length (now program) ≡ 1600) × (length (now saved) ≡ 1600) × (16 ≤ length (now reply))
         × (k ≤ 216) × SoundData (mode c) (c .panel .parameter) k what ⌝ }
     ensures done { λ r. ⌜ ((l : List ℕ) → onAreas r (areas (now (program .exit)) (now (saved .exit)) l (now (reply .exit))) ≡
@@ -130,12 +127,16 @@ fn answer_write(
 }
 
 // An error changes nothing but the emptied collection.
-fn answer_error(c: Controller, e: u8, reply: &mut [u8]) -> Done
+fn answer_error(c: Controller, e: u8, reply: &mut [u8]) -> Unlogged
     requires { ⌜ 16 ≤ length (now reply) ⌝ }
     ensures done { λ r. ⌜ ((p s l : List ℕ) → onAreas r (areas p s l (now (reply .exit))) ≡
         answer (refused e) c (areas p s l (now (reply .entry)))) ⌝ }
 {
-    said(deeds::did(empty_collection(c)), error_text(e), reply)
+    said(
+        deeds::nothing_run(empty_collection(c)),
+        formats::error_text(e),
+        reply,
+    )
 }
 
 // What a command that passed its checks asks for is done and answered.
@@ -145,7 +146,7 @@ fn answer_asked(
     program: &mut [u8],
     saved: &mut [u8],
     reply: &mut [u8],
-) -> Done
+) -> Unlogged
     requires { ⌜ (length (now program) ≡ 1600) × (length (now saved) ≡ 1600) × (16 ≤ length (now reply))
         × Sound (mode c) (c .panel .parameter) q ⌝ }
     ensures done { λ r. ⌜ ((l : List ℕ) → onAreas r (areas (now (program .exit)) (now (saved .exit)) l (now (reply .exit))) ≡
@@ -164,7 +165,7 @@ pub fn answer(
     program: &mut [u8],
     saved: &mut [u8],
     reply: &mut [u8],
-) -> Done
+) -> Unlogged
     requires { ⌜ (length (now program) ≡ 1600) × (length (now saved) ≡ 1600) × (16 ≤ length (now reply))
         × Ok (Sound (mode c) (c .panel .parameter)) (askedOf heard) ⌝ }
     ensures done { λ r. ⌜ ((l : List ℕ) → onAreas r (areas (now (program .exit)) (now (saved .exit)) l (now (reply .exit))) ≡

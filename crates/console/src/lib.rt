@@ -1,153 +1,165 @@
 // A box on standard input and output: byte 1 is a tick, 2 and 3 are buttons 1 and 2, every other byte goes to the wire, and the
-// replies go out, each before more input is waited for.
+// replies are gathered and go out before more input is waited for.
+ghost use mathlib.Core.Path.{_≡_};
 ghost use Rattle.controller.specs.Invariant.{Invariant};
-use controller::Controller;
-use libc::STDIN_FILENO;
-use libc::STDOUT_FILENO;
+use calls::Returned;
+use calls::SwitchBox;
+use streams::Output;
 
-// The box after some input, and whether there may be more.
+// The box and its output after some input, and whether there may be more.
 pub struct Next {
-    pub state: Controller,
+    pub held: SwitchBox,
+    pub output: Output,
     pub on: bool,
-}
-
-// The first n bytes of a reply go out, every one of them; false where the output takes no more.
-fn say(reply: &[u8], n: usize) -> bool {
-    if n == 0 {
-        return true;
-    }
-    if n <= reply.len() {
-        return io::write_all(STDOUT_FILENO, &reply[..n]);
-    }
-    false
 }
 
 // A byte to the wire, and its reply.
 fn sent(
-    c: Controller,
+    b: SwitchBox,
+    output: Output,
     x: u8,
     program: &mut [u8],
     saved: &mut [u8],
     log: &mut [u8],
-    reply: &mut [u8],
+    block: &mut [u8],
 ) -> Next
-    requires { ⌜ Invariant c ⌝ }
-    ensures kept { λ r. ⌜ Invariant (r .state) ⌝ }
+    requires { ⌜ Invariant (b .controller) ⌝ }
+    ensures kept { λ r. ⌜ Invariant (r .held .controller) ⌝ }
 {
-    let a = calls::byte(c, x, program, saved, log, reply);
-    let state = a.state;
-    let on = say(reply, a.written);
-    Next { state, on }
+    let mut reply = [0u8; 16];
+    let a = b.byte(x, program, saved, log, &mut reply);
+    let held = a.next;
+    let output = output.put_first(block, &reply, a.written);
+    let on = output.open;
+    Next { held, output, on }
+}
+
+// After a call that has no reply.
+fn silent(a: Returned, output: Output) -> Next
+    ensures next { λ r. ⌜ r .held ≡ a .next ⌝ }
+{
+    let held = a.next;
+    Next {
+        held,
+        output,
+        on: true,
+    }
 }
 
 // One byte of input.
 fn one(
-    c: Controller,
+    b: SwitchBox,
+    output: Output,
     x: u8,
     program: &mut [u8],
     saved: &mut [u8],
     log: &mut [u8],
-    reply: &mut [u8],
+    block: &mut [u8],
 ) -> Next
-    requires { ⌜ Invariant c ⌝ }
-    ensures kept { λ r. ⌜ Invariant (r .state) ⌝ }
+    requires { ⌜ Invariant (b .controller) ⌝ }
+    ensures kept { λ r. ⌜ Invariant (r .held .controller) ⌝ }
 {
     if x == 1 {
-        let a = calls::tick(c, program, log);
-        let state = a.state;
-        return Next { state, on: true };
+        return silent(b.tick(program, log), output);
     }
     if x == 2 {
-        let a = calls::press(c, 1, program, log);
-        let state = a.state;
-        return Next { state, on: true };
+        return silent(b.press(1, program, log), output);
     }
     if x == 3 {
-        let a = calls::press(c, 2, program, log);
-        let state = a.state;
-        return Next { state, on: true };
+        return silent(b.press(2, program, log), output);
     }
-    sent(c, x, program, saved, log, reply)
+    sent(b, output, x, program, saved, log, block)
 }
 
-// The bytes of input that have come, one after the other.
+// The bytes of input that have come, one after the other, as long as the output takes the replies.
 fn feed(
-    c: Controller,
+    b: SwitchBox,
+    output: Output,
     input: &[u8],
     program: &mut [u8],
     saved: &mut [u8],
     log: &mut [u8],
-    reply: &mut [u8],
+    block: &mut [u8],
 ) -> Next
-    requires { ⌜ Invariant c ⌝ }
-    ensures kept { λ r. ⌜ Invariant (r .state) ⌝ }
+    requires { ⌜ Invariant (b .controller) ⌝ }
+    ensures kept { λ r. ⌜ Invariant (r .held .controller) ⌝ }
 {
-    let mut s = c;
+    let mut s = b;
+    let mut o = output;
     let mut i: usize = 0;
     while i < input.len() {
-        let n = one(s, input[i], program, saved, log, reply);
-        s = n.state;
+        let n = one(s, o, input[i], program, saved, log, block);
         if !n.on {
             return n;
         }
+        s = n.held;
+        o = n.output;
         i += 1;
     }
-    Next { state: s, on: true }
+    Next {
+        held: s,
+        output: o,
+        on: true,
+    }
 }
 
-// Input is read once, and what came is fed to the box.
+// What is gathered goes out, input is read once, and what came is fed to the box.
 fn turn(
-    c: Controller,
+    b: SwitchBox,
+    output: Output,
     program: &mut [u8],
     saved: &mut [u8],
     log: &mut [u8],
-    reply: &mut [u8],
+    block: &mut [u8],
 ) -> Next
-    requires { ⌜ Invariant c ⌝ }
-    ensures kept { λ r. ⌜ Invariant (r .state) ⌝ }
+    requires { ⌜ Invariant (b .controller) ⌝ }
+    ensures kept { λ r. ⌜ Invariant (r .held .controller) ⌝ }
 {
     let mut input = [0u8; 4096];
-    let got = libc::read(STDIN_FILENO, &mut input);
-    if got < 0 {
-        os::fail(&[b'r', b'e', b'a', b'd']);
+    let empty = output.flushed(block);
+    if !empty.open {
         return Next {
-            state: c,
+            held: b,
+            output: empty,
             on: false,
         };
     }
-    if got == 0 {
+    let n = streams::read_some(&mut input);
+    if n == 0 {
         return Next {
-            state: c,
+            held: b,
+            output: empty,
             on: false,
         };
     }
-    let n = io::count(got, &input);
-    feed(c, &input[..n], program, saved, log, reply)
+    feed(b, empty, &input[..n], program, saved, log, block)
 }
 
 // Input to its end. A proved loop has to end, so it counts its turns down, from a number that no run uses up.
-fn turns(c: Controller, program: &mut [u8], saved: &mut [u8], log: &mut [u8], reply: &mut [u8])
-    requires { ⌜ Invariant c ⌝ }
+fn turns(b: SwitchBox, program: &mut [u8], saved: &mut [u8], log: &mut [u8], block: &mut [u8])
+    requires { ⌜ Invariant (b .controller) ⌝ }
 {
-    let mut s = c;
+    let mut s = b;
+    let mut o = Output::new();
     let mut left = u64::MAX;
     while left > 0 {
-        let n = turn(s, program, saved, log, reply);
+        let n = turn(s, o, program, saved, log, block);
         if !n.on {
             return;
         }
-        s = n.state;
+        s = n.held;
+        o = n.output;
         left -= 1;
     }
 }
 
-// A box with an all-zero saved copy and a log of 24 bytes, from power-on to the end of the input.
+// A box with an all-zero saved copy and the smallest log, from power-on to the end of the input.
 pub fn run() {
     let mut program = [0u8; 1600];
     let mut saved = [0u8; 1600];
-    let mut log = [0u8; 24];
-    let mut reply = [0u8; 16];
-    let a = calls::power_on(&mut program, &saved, &log);
-    let state = a.state;
-    turns(state, &mut program, &mut saved, &mut log, &mut reply);
+    let mut log = [0u8; log::LEAST_AREA];
+    let mut block = [0u8; 4096];
+    let a = SwitchBox::power_on(&mut program, &saved, &log);
+    let held = a.next;
+    turns(held, &mut program, &mut saved, &mut log, &mut block);
 }

@@ -18,12 +18,15 @@ use Rattle.controller.proofs.Logging.{aByte, logged-is}
 -- what an error reply leaves: the collection is empty, and the reply stands at the start of its area
 abbrev pub afterError : ℕ → Controller → Areas → After
 afterError e c a = record {
-  answer = record { state = emptyCollection c; refusal = 0; lines = 0; written = length (ended (errorText e)) };
+  state = emptyCollection c;
+  refusal = 0;
+  lines = 0;
+  written = length (ended (errorText e));
   areas = withOut (over (ended (errorText e)) (a .out)) a;
 }
 
 -- An error reply changes nothing but the emptied collection.
-pub error-changes-nothing : (c : Controller) (a : Areas) (e : ℕ) → call (byte 13) c a .answer .refusal ≡ 0 → asked c ≡ refused e
+pub error-changes-nothing : (c : Controller) (a : Areas) (e : ℕ) → call (byte 13) c a .refusal ≡ 0 → asked c ≡ refused e
     → call (byte 13) c a ≡ afterError e c a
 unfolding does Deeds.byte answer writing
 error-changes-nothing c a e ok err =

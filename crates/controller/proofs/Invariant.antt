@@ -29,22 +29,24 @@ use Rattle.wire.specs.declared.Data.{Data}
 use Rattle.wire.specs.declared.Data.the-variants.{WriteLine, WriteOutputs, WriteParameter, WriteSpecial}
 use Rattle.wire.specs.declared.Asked.{Asked}
 use Rattle.wire.specs.declared.Asked.the-variants.{Read, Write}
-use Rattle.special.specs.Special.{modeOf, allowed, codeOf}
+use Rattle.special.specs.Special.{codeOf}
+use Rattle.special.proofs.Quiet.{start-stopped, start-at-stopped, pause-runs}
 use Rattle.wire.specs.Invariant.{WireInvariant}
 use Rattle.wire.proofs.Collecting.{collect-kept, cleared-kept}
 use Rattle.wire.specs.Sound.{Permitted, SoundData, Sound}
 use Rattle.wire.proofs.Commands.{asked-sound}
 use Rattle.controller.specs.declared.Controller.{Controller}
 use Rattle.controller.specs.Controller.{withRun, withPaused, withTicks, withWire, withSpecial, withEvent, mode, Areas, fresh}
-use Rattle.controller.specs.Deeds.{Did, raise, moved, startAt, stop, execute, special, read, write, readTo, wroteTo, writing, emptyCollection, asked, answer, ticked, pressed, emptyLog, powerUp}
+use Rattle.controller.specs.Deeds.{Deed, raise, moved, startAt, stop, execute, special, read, write, readTo, wroteTo, writing}
+use Rattle.controller.specs.Deeds.{emptyCollection, asked, answer, ticked, pressed, emptyLog, powerUp}
 use Rattle.controller.specs.Variables.{lineOf}
 use Rattle.controller.specs.Deeds as Deeds
 use Rattle.controller.specs.Refusals.{Call, powerOn, byte, tick as tickCall, press, emptying, check}
-use Rattle.controller.specs.Calls.{does, given, differs, changeOf, logged, settled, call}
+use Rattle.controller.specs.Calls.{does, startsFrom, differs, changeOf, logged, settled, call}
 use Rattle.controller.specs.Invariant.{Invariant}
 
 -- the state of what was done keeps it; the log is looked at apart
-record Keeps (x : Did) : Type 0 where
+record Keeps (x : Deed) : Type 0 where
   kept : Invariant (x .state)
 
 -- ---- parts altered
@@ -67,7 +69,13 @@ with-outputs : (o : ℕ) (c : Controller) → Invariant c → Invariant (withRun
 unfolding stopped
 with-outputs o c i =
     let r = i .run in
-    with-run _ c (record { lineInProgram = r .lineInProgram; forLine = r .forLine; count = r .count; time = r .time; idle = λ e. ap (withOutputs o) (r .idle e) }) (i .pausedRuns) i
+    with-run _ c (record {
+      lineInProgram = r .lineInProgram;
+      forLine = r .forLine;
+      count = r .count;
+      time = r .time;
+      idle = λ e. ap (withOutputs o) (r .idle e);
+    }) (i .pausedRuns) i
 
 stopped-invariant : (c : Controller) → Invariant c → Invariant (stop c)
 unfolding stop
@@ -95,24 +103,6 @@ module _ (c : Controller) (a : Areas) (i : Invariant c) where
 
 -- ---- the special commands
 
--- the table's columns, read backwards
-start-stopped : (on paused : Bool) → allowed Start (modeOf on paused) ≡ true → on ≡ false
-unfolding allowed
-start-stopped false paused e = refl
-start-stopped true true e = sym e
-start-stopped true false e = sym e
-
-start-at-stopped : (on paused : Bool) → allowed StartAt (modeOf on paused) ≡ true → on ≡ false
-unfolding allowed
-start-at-stopped false paused e = refl
-start-at-stopped true true e = sym e
-start-at-stopped true false e = sym e
-
-pause-runs : (on paused : Bool) → allowed Pause (modeOf on paused) ≡ true → on ≡ true
-unfolding allowed
-pause-runs false paused e = e
-pause-runs true paused e = refl
-
 with-paused : (b : Bool) (c : Controller) → (b ≡ true → c .run .on ≡ true) → Invariant c → Invariant (withPaused b c)
 with-paused b c p i = record { run = i .run; wire = i .wire; log = i .log; pausedRuns = p; single = i .single }
 
@@ -128,7 +118,8 @@ special-keeps Pause c a p i = record { kept = with-paused true c (λ _. pause-ru
 special-keeps Start c a p i = start-keeps c a i 0 (omega arith) (start-stopped (c .run .on) (c .paused) (p .may))
 special-keeps Continue c a p i = record { kept = with-paused false c (λ e. absurd (true≢false (sym e))) i }
 special-keeps StartAt c a p i =
-    start-keeps c a i (c .panel .parameter) (omega (arith, leb-true (c .panel .parameter) 199 (p .reaches))) (start-at-stopped (c .run .on) (c .paused) (p .may))
+    start-keeps c a i (c .panel .parameter) (omega (arith, leb-true (c .panel .parameter) 199 (p .reaches)))
+    (start-at-stopped (c .run .on) (c .paused) (p .may))
 special-keeps Execute c a p i = record { kept = executed (lineOf c (a .program) (c .panel .parameter)) c i }
 special-keeps Load c a p i = record { kept = i }
 special-keeps Save c a p i = record { kept = i }
@@ -164,7 +155,7 @@ wrote-to-keeps : (k : ℕ) (c : Controller) → k ≤ 216 → Invariant c → In
 wrote-to-keeps k c le i =
     with-wire _ c (record { whole = i .wire .whole; fits = i .wire .fits; nextRead = i .wire .nextRead; nextWrite = omega arith }) i
 
-writing-keeps : (bytes : List ℕ) (x : Did) → Keeps x → Keeps (writing bytes x)
+writing-keeps : (bytes : List ℕ) (x : Deed) → Keeps x → Keeps (writing bytes x)
 unfolding writing
 writing-keeps bytes x h = record { kept = h .kept }
 
@@ -191,7 +182,8 @@ unfolding ticked
 tick-keeps c a i =
     let j = with-ticks (c .ticks + 1) c i in
     if-case Keeps (c .paused) (λ _. record { kept = j })
-    (λ e. moved-keeps (withTicks (c .ticks + 1) c) a j (tick (a .program) (c .run)) (tick-kept (a .program) (c .run) (i .run)) (λ f. absurd (true≢false (sym f ∙ e))))
+    (λ e. moved-keeps (withTicks (c .ticks + 1) c) a j (tick (a .program) (c .run)) (tick-kept (a .program) (c .run) (i .run))
+    (λ f. absurd (true≢false (sym f ∙ e))))
 
 press-keeps : (n : ℕ) (c : Controller) (a : Areas) → Invariant c → Keeps (pressed n c a)
 unfolding pressed
@@ -235,26 +227,26 @@ does-keeps tickCall c a i = tick-keeps c a i
 does-keeps (press n) c a i = press-keeps n c a i
 does-keeps emptying c a i = empty-log-keeps c a i
 
-logged-kept : (k : Call) (c : Controller) (x : Did) → LogInvariant (x .state .log) → LogInvariant (logged k c x .log)
+logged-kept : (k : Call) (c : Controller) (x : Deed) → LogInvariant (x .state .log) → LogInvariant (logged k c x .log)
 unfolding logged
 logged-kept k c x l =
-    if-case (λ (g : Logged). LogInvariant (g .log)) (differs (given k c .run .outputs) (x .state .run .outputs))
+    if-case (λ (g : Logged). LogInvariant (g .log)) (differs (startsFrom k c .run .outputs) (x .state .run .outputs))
     (λ _. change-kept (x .state .log) (x .areas .log) (changeOf k c (x .state)) l) (λ _. l)
 
-given-invariant : (k : Call) (c : Controller) → Invariant c → Invariant (given k c)
-given-invariant powerOn c i = fresh-invariant 0
-given-invariant (byte x) c i = i
-given-invariant tickCall c i = i
-given-invariant (press n) c i = i
-given-invariant emptying c i = i
+starts-from-invariant : (k : Call) (c : Controller) → Invariant c → Invariant (startsFrom k c)
+starts-from-invariant powerOn c i = fresh-invariant 0
+starts-from-invariant (byte x) c i = i
+starts-from-invariant tickCall c i = i
+starts-from-invariant (press n) c i = i
+starts-from-invariant emptying c i = i
 
-settled-invariant : (r : Res (Unit {0})) (k : Call) (c : Controller) (a : Areas) → Invariant c → Invariant (settled r k c a .answer .state)
-settled-invariant (refused n) k c a i = given-invariant k c i
+settled-invariant : (r : Res (Unit {0})) (k : Call) (c : Controller) (a : Areas) → Invariant c → Invariant (settled r k c a .state)
+settled-invariant (refused n) k c a i = starts-from-invariant k c i
 settled-invariant (passed ok) k c a i =
     let d = does-keeps k c a i .kept in
     record { run = d .run; wire = d .wire; log = logged-kept k c (does k c a) (d .log); pausedRuns = d .pausedRuns; single = d .single }
 
 -- Every call, accepted or refused, keeps the invariant.
-pub call-invariant : (k : Call) (c : Controller) (a : Areas) → Invariant c → Invariant (call k c a .answer .state)
+pub call-invariant : (k : Call) (c : Controller) (a : Areas) → Invariant c → Invariant (call k c a .state)
 unfolding call
 call-invariant k c a i = settled-invariant (check k c a) k c a i

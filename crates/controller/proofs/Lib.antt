@@ -1,3 +1,4 @@
+pub mod Alterations
 pub mod Invariant
 pub mod Refusals
 pub mod Errors

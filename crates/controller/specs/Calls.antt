@@ -9,16 +9,15 @@ use Rattle.log.specs.declared.Log.{Log}
 use Rattle.log.specs.Log.{Logged, addChange}
 use Rattle.wire.specs.declared.Asked.{Asked}
 use Rattle.controller.specs.declared.Controller.{Controller}
-use Rattle.controller.specs.declared.Answer.{Answer}
 use Rattle.controller.specs.Controller.{withLog, Areas, withLogArea, fresh}
-use Rattle.controller.specs.Deeds.{Did, ticked, pressed, emptyLog, powerUp}
+use Rattle.controller.specs.Deeds.{Deed, ticked, pressed, emptyLog, powerUp}
 use Rattle.controller.specs.Deeds as Deeds
 use Rattle.controller.specs.Refusals.{Call, powerOn, byte, tick, press, emptying, check}
 use Rattle.controller.specs.Effects.{finished, writesOutputs, specialCode}
 
 -- ---- done
 
-unfoldable pub does : Call → Controller → Areas → Did
+unfoldable pub does : Call → Controller → Areas → Deed
 does powerOn c a = powerUp a
 does (byte x) c a = Deeds.byte x c a
 does tick c a = ticked c a
@@ -28,12 +27,12 @@ does emptying c a = emptyLog c a
 -- ---- logged
 
 -- the state that a call starts from; power-on "takes none and makes one"
-abbrev pub given : Call → Controller → Controller
-given powerOn c = fresh 0
-given (byte x) c = c
-given tick c = c
-given (press n) c = c
-given emptying c = c
+abbrev pub startsFrom : Call → Controller → Controller
+startsFrom powerOn c = fresh 0
+startsFrom (byte x) c = c
+startsFrom tick c = c
+startsFrom (press n) c = c
+startsFrom emptying c = c
 
 -- 01, 'The log': "A change is a call after which the output word differs. One call makes at most one."
 abbrev pub differs : ℕ → ℕ → Bool
@@ -56,33 +55,43 @@ loggedBy before change log area =
     if differs before (change .word) then addChange log area change else record { log = log; area = area }
 
 -- the log and its area after an accepted call that did x
-unfoldable pub logged : Call → Controller → Did → Logged
-logged k c x = loggedBy (given k c .run .outputs) (changeOf k c (x .state)) (x .state .log) (x .areas .log)
+unfoldable pub logged : Call → Controller → Deed → Logged
+logged k c x = loggedBy (startsFrom k c .run .outputs) (changeOf k c (x .state)) (x .state .log) (x .areas .log)
 
 -- ---- answered
 
--- all that a call leaves: what it returns, and every lent area
+-- all that a call leaves: the next state, what it returns beside it, and every lent area
 pub record After : Type 0 where
-  pub answer : Answer
+  pub state : Controller
+  -- the number of the refusal, 0 where the call is accepted
+  pub refusal : ℕ
+  -- For and Next lines run
+  pub lines : ℕ
+  -- bytes written to the start of the reply or of the destination
+  pub written : ℕ
   pub areas : Areas
 
-abbrev pub accepted : Did → Logged → After
+abbrev pub accepted : Deed → Logged → After
 accepted x l = record {
-  answer = record { state = withLog (l .log) (x .state); refusal = 0; lines = x .lines; written = x .written };
+  state = withLog (l .log) (x .state);
+  refusal = 0;
+  lines = x .lines;
+  written = x .written;
   areas = withLogArea (l .area) (x .areas);
 }
 
 -- 01, 'Calls': "A refusal returns its number, leaves the state and every lent byte untouched; its counts and lengths are 0. A
 -- refused power-on returns the power-on state with a log length of 0".
-abbrev pub refusing : ℕ → Controller → Answer
-refusing n c = record { state = c; refusal = n; lines = 0; written = 0 }
-
 abbrev pub refusedWith : ℕ → Call → Controller → Areas → After
-refusedWith n k c a = record { answer = refusing n (given k c); areas = a }
+refusedWith n k c a = record { state = startsFrom k c; refusal = n; lines = 0; written = 0; areas = a }
+
+-- a call that passed its checks
+abbrev pub taken : Call → Controller → Areas → After
+taken k c a = accepted (does k c a) (logged k c (does k c a))
 
 abbrev pub settled : Res (Unit {0}) → Call → Controller → Areas → After
 settled (refused n) k c a = refusedWith n k c a
-settled (passed ok) k c a = accepted (does k c a) (logged k c (does k c a))
+settled (passed ok) k c a = taken k c a
 
 -- A call made with the state c, which power-on does not look at, and the areas a.
 unfoldable pub call : Call → Controller → Areas → After

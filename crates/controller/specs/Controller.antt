@@ -1,15 +1,16 @@
 -- The controller state with one part altered, the lent areas, and what power-on makes.
 use Prim.Native.Nat.{ℕ}
-use mathlib.Core.Bool.{Bool, true, false}
+use mathlib.Core.Bool.{Bool, false}
 use mathlib.Core.List.{List}
-use lib.ListN.{replicate}
-use Rattle.lines.specs.Line.{endMark, bytesOf}
 use Rattle.running.specs.declared.Run.{Run}
-use Rattle.running.specs.Running.{allFree}
+use Rattle.running.specs.Running.{freshRun}
 use Rattle.variables.specs.declared.Panel.{Panel}
+use Rattle.variables.specs.Panel as Panel
+use Rattle.variables.specs.Panel.{freshPanel}
 use Rattle.log.specs.declared.Log.{Log}
 use Rattle.log.specs.Log.{emptied}
 use Rattle.wire.specs.declared.Wire.{Wire}
+use Rattle.wire.specs.Collecting.{freshWire}
 use Rattle.special.specs.declared.Mode.{Mode}
 use Rattle.special.specs.Special.{modeOf}
 use Rattle.controller.specs.declared.Controller.{Controller}
@@ -35,20 +36,16 @@ abbrev pub withLog : Log → Controller → Controller
 withLog x c = record { run = c .run; paused = c .paused; ticks = c .ticks; wire = c .wire; panel = c .panel; log = x }
 
 abbrev pub withSingle : List ℕ → Controller → Controller
-withSingle x c =
-    withPanel (record { single = x; parameter = c .panel .parameter; special = c .panel .special; event = c .panel .event; unread = c .panel .unread }) c
+withSingle x c = withPanel (Panel.withSingle x (c .panel)) c
 
 abbrev pub withParameter : ℕ → Controller → Controller
-withParameter x c =
-    withPanel (record { single = c .panel .single; parameter = x; special = c .panel .special; event = c .panel .event; unread = c .panel .unread }) c
+withParameter x c = withPanel (Panel.withParameter x (c .panel)) c
 
 abbrev pub withSpecial : ℕ → Controller → Controller
-withSpecial x c =
-    withPanel (record { single = c .panel .single; parameter = c .panel .parameter; special = x; event = c .panel .event; unread = c .panel .unread }) c
+withSpecial x c = withPanel (Panel.withSpecial x (c .panel)) c
 
 abbrev pub withEvent : ℕ → Bool → Controller → Controller
-withEvent e unread c =
-    withPanel (record { single = c .panel .single; parameter = c .panel .parameter; special = c .panel .special; event = e; unread = unread }) c
+withEvent e unread c = withPanel (Panel.withEvent e unread (c .panel)) c
 
 -- Stop, Pause or Auto
 abbrev pub mode : Controller → Mode
@@ -78,15 +75,6 @@ withOut x a = record { program = a .program; saved = a .saved; log = a .log; out
 
 -- ---- power-on
 
--- 01, 'Running': "Power-on: outputs 0, stopped, line 000, parameter 0, tick count 0, log empty, event 012." 'Variables': 200 is
--- the "end mark with outputs 0 at power-on", 210 is "000 at first". 'The wire': the last addresses are "both 000 at power-on
--- (*house*)", so the next ones are 001.
+-- 01, 'Running': "Power-on: outputs 0, stopped, line 000, parameter 0, tick count 0, log empty, event 012."
 unfoldable pub fresh : ℕ → Controller
-fresh logLength = record {
-  run = record { on = false; line = 0; outputs = 0; wait = 0; counters = allFree };
-  paused = false;
-  ticks = 0;
-  wire = record { chars = replicate 32 0; len = 0; overlong = false; nextread = 1; nextwrite = 1 };
-  panel = record { single = bytesOf endMark; parameter = 0; special = 0; event = 12; unread = true };
-  log = emptied logLength;
-}
+fresh logLength = record { run = freshRun; paused = false; ticks = 0; wire = freshWire; panel = freshPanel; log = emptied logLength }

@@ -20,30 +20,32 @@ use Rattle.wire.specs.declared.Data.{Data}
 use Rattle.wire.specs.declared.Data.the-variants.{WriteLine, WriteOutputs, WriteParameter, WriteSpecial}
 use Rattle.wire.specs.declared.Asked.{Asked}
 use Rattle.wire.specs.declared.Asked.the-variants.{Read, Write}
+use Rattle.wire.specs.Collecting as Wire
 use Rattle.wire.specs.Collecting.{collect, cleared}
 use Rattle.special.specs.Special.{codeOf}
 use Rattle.wire.specs.Command.{command}
 use Rattle.controller.specs.declared.Controller.{Controller}
-use Rattle.controller.specs.Controller.{withRun, withPaused, withTicks, withWire, withLog, withSingle, withParameter, withSpecial, withEvent, mode, Areas, withProgram, withSaved, withOut, fresh}
+use Rattle.controller.specs.Controller.{withRun, withPaused, withTicks, withWire, withLog, withSingle, withParameter}
+use Rattle.controller.specs.Controller.{withSpecial, withEvent, mode, Areas, withProgram, withSaved, withOut, fresh}
 use Rattle.controller.specs.Variables.{lineOf, value}
 
 -- What was done: the state and the areas after it, the For and Next lines run, and the bytes written to the start of the reply or
 -- the destination.
-pub record Did : Type 0 where
+pub record Deed : Type 0 where
   pub state : Controller
   pub areas : Areas
   pub lines : ℕ
   pub written : ℕ
 
 -- nothing run and nothing written
-abbrev pub did : Controller → Areas → Did
-did c a = record { state = c; areas = a; lines = 0; written = 0 }
+abbrev pub nothingRun : Controller → Areas → Deed
+nothingRun c a = record { state = c; areas = a; lines = 0; written = 0 }
 
 -- 01, 'Calls': "A reply is written from the start of its area and the bytes after it stay."
 abbrev pub over : List ℕ → List ℕ → List ℕ
 over bytes area = bytes ++ drop (length bytes) area
 
-unfoldable pub writing : List ℕ → Did → Did
+unfoldable pub writing : List ℕ → Deed → Deed
 writing bytes x =
     record { state = x .state; areas = withOut (over bytes (x .areas .out)) (x .areas); lines = x .lines; written = length bytes }
 
@@ -54,10 +56,10 @@ unfoldable pub raise : ℕ → Controller → Controller
 raise event c = if eqb event 0 then c else withEvent event true c
 
 -- the run moved on
-unfoldable pub moved : Ran → Controller → Areas → Did
+unfoldable pub moved : Ran → Controller → Areas → Deed
 moved r c a = record { state = raise (r .event) (withRun (r .run) c); areas = a; lines = r .lines; written = 0 }
 
-unfoldable pub startAt : ℕ → Controller → Areas → Did
+unfoldable pub startAt : ℕ → Controller → Areas → Deed
 startAt k c a = moved (start (a .program) k (c .run .outputs)) c a
 
 -- 01, 'Special commands': "Stop frees the loops and keeps outputs and line."
@@ -80,15 +82,15 @@ execute (State outputs time) c = withRun (withOutputs outputs (c .run)) c
 execute (For counter count) c = c
 execute (Next counter) c = c
 
-unfoldable pub special : Special → Controller → Areas → Did
-special Stop c a = did (stop c) a
-special Pause c a = did (withPaused true c) a
+unfoldable pub special : Special → Controller → Areas → Deed
+special Stop c a = nothingRun (stop c) a
+special Pause c a = nothingRun (withPaused true c) a
 special Start c a = startAt 0 c a
-special Continue c a = did (withPaused false c) a
+special Continue c a = nothingRun (withPaused false c) a
 special StartAt c a = startAt (c .panel .parameter) c a
-special Execute c a = did (execute (lineOf c (a .program) (c .panel .parameter)) c) a
-special Load c a = did c (load a)
-special Save c a = did c (save a)
+special Execute c a = nothingRun (execute (lineOf c (a .program) (c .panel .parameter)) c) a
+special Load c a = nothingRun c (load a)
+special Save c a = nothingRun c (save a)
 
 -- ---- a command that passed the checks
 
@@ -96,20 +98,18 @@ special Save c a = did c (save a)
 abbrev pub read : ℕ → Controller → Controller
 read k c = if eqb k 212 then withEvent 0 false c else c
 
-unfoldable pub write : ℕ → Data → Controller → Areas → Did
-write k (WriteLine l) c a = if eqb k 200 then did (withSingle (bytesOf l) c) a else did c (withProgram (putLine k l (a .program)) a)
-write k (WriteOutputs x) c a = did (withRun (withOutputs (withOutputByte k x (c .run .outputs)) (c .run)) c) a
-write k (WriteParameter v) c a = did (withParameter v c) a
+unfoldable pub write : ℕ → Data → Controller → Areas → Deed
+write k (WriteLine l) c a = if eqb k 200 then nothingRun (withSingle (bytesOf l) c) a else nothingRun c (withProgram (putLine k l (a .program)) a)
+write k (WriteOutputs x) c a = nothingRun (withRun (withOutputs (withOutputByte k x (c .run .outputs)) (c .run)) c) a
+write k (WriteParameter v) c a = nothingRun (withParameter v c) a
 write k (WriteSpecial s) c a = special s (withSpecial (codeOf s) c) a
 
 -- "Read and write keep separate last addresses [...] They move only on a command answered without an error."
 abbrev pub readTo : ℕ → Controller → Controller
-readTo k c =
-    withWire (record { chars = c .wire .chars; len = c .wire .len; overlong = c .wire .overlong; nextread = k + 1; nextwrite = c .wire .nextwrite }) c
+readTo k c = withWire (Wire.readTo k (c .wire)) c
 
 abbrev pub wroteTo : ℕ → Controller → Controller
-wroteTo k c =
-    withWire (record { chars = c .wire .chars; len = c .wire .len; overlong = c .wire .overlong; nextread = c .wire .nextread; nextwrite = k + 1 }) c
+wroteTo k c = withWire (Wire.wroteTo k (c .wire)) c
 
 -- ---- a wire byte
 
@@ -122,37 +122,37 @@ emptyCollection c = withWire (cleared (c .wire)) c
 
 -- "Each 13 gets one reply, then collection starts empty." "An accepted write answers OK." "An error reply changes nothing but the
 -- emptied collection."
-unfoldable pub answer : Res Asked → Controller → Areas → Did
-answer (refused e) c a = writing (ended (errorText e)) (did (emptyCollection c) a)
-answer (passed (Read k)) c a = writing (ended (value c (a .program) k)) (did (read k (readTo k (emptyCollection c))) a)
+unfoldable pub answer : Res Asked → Controller → Areas → Deed
+answer (refused e) c a = writing (ended (errorText e)) (nothingRun (emptyCollection c) a)
+answer (passed (Read k)) c a = writing (ended (value c (a .program) k)) (nothingRun (read k (readTo k (emptyCollection c))) a)
 answer (passed (Write k x)) c a = writing (ended (text "OK")) (write k x (wroteTo k (emptyCollection c)) a)
 
 -- what the command collected so far asks for, or its error
 abbrev pub asked : Controller → Res Asked
 asked c = command (c .wire) (mode c) (c .panel .parameter)
 
-unfoldable pub byte : ℕ → Controller → Areas → Did
-byte x c a = if eqb x 13 then answer (asked c) c a else did (withWire (collect x (c .wire)) c) a
+unfoldable pub byte : ℕ → Controller → Areas → Deed
+byte x c a = if eqb x 13 then answer (asked c) c a else nothingRun (withWire (collect x (c .wire)) c) a
 
 -- ---- a tick, a press, emptying, power-on
 
 -- "A tick first adds one to the count, whether stopped, paused or running."
-unfoldable pub ticked : Controller → Areas → Did
+unfoldable pub ticked : Controller → Areas → Deed
 ticked c a =
     let counted = withTicks (c .ticks + 1) c in
-    if c .paused then did counted a else moved (tick (a .program) (c .run)) counted a
+    if c .paused then nothingRun counted a else moved (tick (a .program) (c .run)) counted a
 
 -- "Start/Stop starts at 000 when stopped, else stops", "stopping by button raises 010".
 -- "Pause pauses, continues, or when stopped does nothing."
-unfoldable pub pressed : ℕ → Controller → Areas → Did
+unfoldable pub pressed : ℕ → Controller → Areas → Deed
 pressed n c a =
-    if eqb n 1 then (if c .run .on then did (raise 10 (stop c)) a else startAt 0 c a)
-    else (if c .run .on then did (withPaused (not (c .paused)) c) a else did c a)
+    if eqb n 1 then (if c .run .on then nothingRun (raise 10 (stop c)) a else startAt 0 c a)
+    else (if c .run .on then nothingRun (withPaused (not (c .paused)) c) a else nothingRun c a)
 
 -- 01, 'The log': "Emptying copies the records held, in order, to the start of the destination, leaves its rest, returns their byte
 -- count, and the room is used again. It changes no byte of the log".
-unfoldable pub emptyLog : Controller → Areas → Did
-emptyLog c a = writing (records (c .log) (a .log)) (did (withLog (emptied (c .log .length)) c) a)
+unfoldable pub emptyLog : Controller → Areas → Deed
+emptyLog c a = writing (records (c .log) (a .log)) (nothingRun (withLog (emptied (c .log .length)) c) a)
 
-unfoldable pub powerUp : Areas → Did
-powerUp a = did (fresh (length (a .log))) (load a)
+unfoldable pub powerUp : Areas → Deed
+powerUp a = nothingRun (fresh (length (a .log))) (load a)

@@ -1,13 +1,13 @@
 -- The five calls, and the refusals 030 to 035.
 -- 01, 'Calls and what is lent', its table: "Checked in that order, each where the call has that argument."
-use Prim.Native.Nat.{ℕ, _*_}
+use Prim.Native.Nat.{ℕ}
 use mathlib.Core.Bool.{Bool, not, _&&_, _||_}
-use mathlib.Core.List.{List}
+use mathlib.Core.List.{List, [], _∷_}
 use lib.ListN.{length}
 use lib.Dec.{leb, eqb}
-use Rattle.formats.specs.Checks.{Res, _>>_, _orElse_}
-use Rattle.log.specs.Record.{recordSize, leastArea, mostArea}
-use Rattle.log.specs.Log.{held}
+use Rattle.formats.specs.Checks.{Res, _>>_, _orElse_, all}
+use Rattle.log.specs.Record.{isArea}
+use Rattle.log.specs.Log.{heldBytes}
 use Rattle.controller.specs.declared.Controller.{Controller}
 use Rattle.controller.specs.Controller.{Areas}
 
@@ -24,11 +24,8 @@ abbrev pub isProgram : List ℕ → Bool
 isProgram area = eqb (length area) 1600
 
 -- 031 "log area under 24 or over 65,536 bytes, or not the length given at power-on"
-abbrev pub isLogLength : ℕ → Bool
-isLogLength n = leb leastArea n && leb n mostArea
-
 abbrev pub isLog : List ℕ → Bool
-isLog area = isLogLength (length area)
+isLog area = isArea (length area)
 
 abbrev pub isSameLog : Controller → List ℕ → Bool
 isSameLog c area = isLog area && eqb (length area) (c .log .length)
@@ -47,26 +44,27 @@ isButton n = eqb n 1 || eqb n 2
 
 -- 035 "destination shorter than the records held (emptying only)"
 abbrev pub isDestination : Controller → List ℕ → Bool
-isDestination c area = leb (recordSize * held (c .log)) (length area)
+isDestination c area = leb (heldBytes (c .log)) (length area)
+
+-- What every call checks first: the program area and the saved copy, as far as it is lent them, and whether the log fits.
+unfoldable pub lent : List (List ℕ) → Bool → Res (Unit {0})
+lent programs log = do
+  all isProgram programs orElse 30
+  log orElse 31
 
 -- "Every call but emptying is lent the program area and the log; power-on and the wire byte are also lent the saved copy. Emptying
 -- is lent the log and a destination."
 unfoldable pub check : Call → Controller → Areas → Res (Unit {0})
-check powerOn c a = do
-  (isProgram (a .program) && isProgram (a .saved)) orElse 30
-  isLog (a .log) orElse 31
+check powerOn c a = lent (a .program ∷ a .saved ∷ []) (isLog (a .log))
 check (byte x) c a = do
-  (isProgram (a .program) && isProgram (a .saved)) orElse 30
-  isSameLog c (a .log) orElse 31
+  lent (a .program ∷ a .saved ∷ []) (isSameLog c (a .log))
   isReply (a .out) orElse 32
 check tick c a = do
-  isProgram (a .program) orElse 30
-  isSameLog c (a .log) orElse 31
+  lent (a .program ∷ []) (isSameLog c (a .log))
   mayTick c orElse 33
 check (press n) c a = do
-  isProgram (a .program) orElse 30
-  isSameLog c (a .log) orElse 31
+  lent (a .program ∷ []) (isSameLog c (a .log))
   isButton n orElse 34
 check emptying c a = do
-  isSameLog c (a .log) orElse 31
+  lent [] (isSameLog c (a .log))
   isDestination c (a .out) orElse 35

@@ -2,21 +2,22 @@
 -- call ends. The box checks its callers itself. A refused call changes only what document 01 says it changes."
 -- Every call has an outcome because `call` is a function; here is what the outcome is where something is refused.
 -- Assumes nothing.
-use mathlib.Core.Path.{_≡_, refl, _∙_}
+use mathlib.Core.Path.{_≡_, refl, ap, _∙_}
 use Prim.Native.Nat.{ℕ}
 use mathlib.Core.Logic.{_≢_}
-use mathlib.Core.Bool.{false, true≢false}
+use mathlib.Core.Bool.{false}
 use mathlib.Core.List.{List, [], _∷_}
 use Rattle.log.specs.Log.{emptied}
 use Rattle.controller.specs.declared.Controller.{Controller}
 use Rattle.controller.specs.Controller.{Areas, fresh}
-use Rattle.controller.specs.Refusals.{Call, powerOn, byte, tick, press, emptying}
+use Rattle.controller.specs.Refusals.{Call, powerOn}
 use Rattle.controller.specs.Effects.{isPowerOn}
-use Rattle.controller.specs.Calls.{call, refusedWith}
+use Rattle.controller.specs.Calls.{call}
 use Rattle.controller.specs.Invariant.{Invariant}
 use Rattle.controller.proofs.Invariant.{fresh-invariant, call-invariant}
 use Rattle.controller.proofs.Refusals.{refused-call, unpowered-refuses}
 use Rattle.demands.specs.Histories.{Made, Held, unpowered, outcome, next, after}
+use Rattle.demands.proofs.Steps.{starts-from-same}
 
 -- ---- the invariant
 
@@ -36,27 +37,22 @@ invariant-always ms = invariant-from unpowered ms (fresh-invariant 0)
 -- ---- refusals
 
 -- A refused call leaves the state and every lent byte as they were, and its counts and lengths are 0.
-pub refused-leaves : (k : Call) (c : Controller) (a : Areas) → isPowerOn k ≡ false → call k c a .answer .refusal ≢ 0
-    → call k c a ≡ record { answer = record { state = c; refusal = call k c a .answer .refusal; lines = 0; written = 0 }; areas = a }
-refused-leaves k c a other ne = refused-call k c a ne ∙ same k other
-  where
-    same : (k′ : Call) → isPowerOn k′ ≡ false → refusedWith (call k c a .answer .refusal) k′ c a
-        ≡ record { answer = record { state = c; refusal = call k c a .answer .refusal; lines = 0; written = 0 }; areas = a }
-    same powerOn e = absurd (true≢false e)
-    same (byte x) e = refl
-    same tick e = refl
-    same (press n) e = refl
-    same emptying e = refl
+pub refused-leaves : (k : Call) (c : Controller) (a : Areas) → isPowerOn k ≡ false → call k c a .refusal ≢ 0
+    → call k c a ≡ record { state = c; refusal = call k c a .refusal; lines = 0; written = 0; areas = a }
+refused-leaves k c a other ne =
+    refused-call k c a ne
+    ∙ ap (λ (s : Controller). record { state = s; refusal = call k c a .refusal; lines = 0; written = 0; areas = a })
+    (starts-from-same k c other)
 
 fresh-length : (n : ℕ) → fresh n .log .length ≡ n
 unfolding fresh emptied
 fresh-length n = refl
 
 -- A refused power-on returns the power-on state with a log length of 0, and loads nothing.
-pub refused-power-on : (c : Controller) (a : Areas) → call powerOn c a .answer .refusal ≢ 0
-    → call powerOn c a ≡ record { answer = record { state = fresh 0; refusal = call powerOn c a .answer .refusal; lines = 0; written = 0 }; areas = a }
+pub refused-power-on : (c : Controller) (a : Areas) → call powerOn c a .refusal ≢ 0
+    → call powerOn c a ≡ record { state = fresh 0; refusal = call powerOn c a .refusal; lines = 0; written = 0; areas = a }
 refused-power-on c a ne = refused-call powerOn c a ne
 
 -- And every later call on it is refused, until a power-on.
-pub refused-after-it : (k : Call) (a : Areas) → isPowerOn k ≡ false → call k (fresh 0) a .answer .refusal ≢ 0
+pub refused-after-it : (k : Call) (a : Areas) → isPowerOn k ≡ false → call k (fresh 0) a .refusal ≢ 0
 refused-after-it k a other = unpowered-refuses k (fresh 0) a other (fresh-length 0)

@@ -4,10 +4,10 @@
 use mathlib.Core.Path.{_≡_, refl, sym, ap, ap₂, subst, _∙_}
 use mathlib.Core.Logic.{_≢_}
 use Prim.Native.Nat.{ℕ}
-use native.Mathlib.Omega.{arith}
 use mathlib.Core.Bool.{true, false, true≢false}
 use mathlib.Core.List.{List, _∷_}
-use mathlib.Core.Option.{none, some}
+use mathlib.Core.Option.{some}
+use Rattle.formats.proofs.Checks.{not-some}
 use Rattle.running.specs.declared.Run.{Run}
 use Rattle.running.specs.declared.Ran.{Ran}
 use Rattle.running.specs.Running.{start, tick, ticks}
@@ -30,7 +30,7 @@ pub record Moves (h : Held) (m : Made) (r : Ran) : Type 0 where
   pub program : next h m .program ≡ h .program
   pub event : r .event ≢ 0 → (next h m .state .panel .event ≡ r .event) × (next h m .state .panel .unread ≡ true)
   pub silent : r .event ≡ 0 → (next h m .state .panel .event ≡ h .state .panel .event) × (next h m .state .panel .unread ≡ h .state .panel .unread)
-  pub lines : outcome h m .answer .lines ≡ r .lines
+  pub lines : outcome h m .lines ≡ r .lines
 
 moves : (h : Held) (m : Made) (r : Ran) → isPowerOn (m .call) ≡ false → isAccepted h m ≡ true → HandsOn h m
     → MovedAs r (h .state) (m .areas .program) (does (m .call) (h .state) (m .areas)) → Moves h m r
@@ -44,11 +44,8 @@ moves h m r other ok hands d = go (stepped h m)
           program = program-held h m other ok hands f (d .program);
           event = λ ne. let p = d .event ne in (ap (λ (g : Held). g .state .panel .event) f ∙ p .0, ap (λ (g : Held). g .state .panel .unread) f ∙ p .1);
           silent = λ z. let p = d .silent z in (ap (λ (g : Held). g .state .panel .event) f ∙ p .0, ap (λ (g : Held). g .state .panel .unread) f ∙ p .1);
-          lines = ap (λ (x : After). x .answer .lines) e ∙ d .lines;
+          lines = ap (λ (x : After). x .lines) e ∙ d .lines;
         }
-
-not-some : {A : Type 0} {k : A} → none ≡ some k → ⊥
-not-some e = let z : _≡_ {A = ℕ} 0 1 = cc in omega arith
 
 not-power-on : (k : Call) (j : ℕ) (c : Controller) → startLine k c ≡ some j → isPowerOn k ≡ false
 unfolding startLine finished

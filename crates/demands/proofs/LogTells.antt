@@ -7,13 +7,12 @@ use native.Mathlib.Omega.{arith}
 use mathlib.Core.Bool.{Bool, true, false, not}
 use mathlib.Core.List.{List, [], _∷_, _++_, append-nil}
 use lib.ListN.{length}
-use lib.Dec.{eqb, leb}
-use borrow.Author.Tests.{leb-true, eqb-true, eq-eqb}
+use lib.Dec.{eqb}
+use borrow.Author.Tests.{eqb-true, eq-eqb}
 use Rattle.formats.specs.Checks.{if_then_else_}
-use Rattle.formats.proofs.Checks.{both-true}
 use Rattle.log.specs.declared.Change.{Change}
 use Rattle.log.specs.declared.Log.{Log}
-use Rattle.log.specs.Record.{leastArea, mostArea}
+use Rattle.log.specs.Record.{leastArea}
 use Rattle.log.specs.Log.{R, Logged, addChange, records, emptied, history}
 use Rattle.log.proofs.Histories.{Holds, holds-nothing, holds-more, records-tell}
 use Rattle.controller.specs.declared.Controller.{Controller}
@@ -22,11 +21,11 @@ use Rattle.controller.specs.Deeds.{over, writing, load, emptyLog, powerUp}
 use Rattle.controller.specs.Refusals.{Call, powerOn, byte, tick, press, emptying, isSameLog}
 use Rattle.controller.specs.Effects.{isPowerOn}
 use Rattle.controller.specs.Calls.{After, does, changeOf, logged}
-use Rattle.controller.proofs.Refusals.{checked-log, log-long, accepted-call}
+use Rattle.controller.proofs.Refusals.{checked-log, area-long, log-long, accepted-call}
 use Rattle.controller.proofs.Logging.{Ordinary, aByte, aTick, aPress, logged-is}
 use Rattle.demands.specs.Histories.{Made, Held, unpowered, outcome, isAccepted, next, after, HandsOn, AllHandOn}
 use Rattle.demands.specs.Changes.{change, sinceCall, since}
-use Rattle.demands.proofs.Steps.{doing, Step, passes, fails, stepped, refused-held}
+use Rattle.demands.proofs.Steps.{deed, Step, passes, fails, stepped, refused-held}
 
 -- ---- what holds after each call
 
@@ -50,7 +49,7 @@ change-of : Held → Made → Controller → List Change
 change-of h m now = if eqb (h .state .run .outputs) (now .run .outputs) then [] else changeOf (m .call) (h .state) now ∷ []
 
 -- the state that is held is the one that the call returned
-next-state : (h : Held) (m : Made) → next h m .state ≡ outcome h m .answer .state
+next-state : (h : Held) (m : Made) → next h m .state ≡ outcome h m .state
 unfolding next
 next-state h m = refl
 
@@ -60,19 +59,19 @@ ordinary : (cs : List Change) (h : Held) (m : Made) → Ordinary (m .call) → i
 unfolding change change-of
 ordinary cs h m o other hands t = go (stepped h m)
   where
-    changed : (now : Controller) → outcome h m .answer .state ≡ now → change h m ≡ change-of h m now
+    changed : (now : Controller) → outcome h m .state ≡ now → change h m ≡ change-of h m now
     changed now e = ap (change-of h m) e
 
     go : Step h m → Tells (cs ++ change h m) (next h m)
     go (fails ok n e f) =
         let stays = refused-held h m other f in
-        let e′ : outcome h m .answer .state ≡ h .state = sym (next-state h m) ∙ ap (λ (g : Held). g .state) stays in
+        let e′ : outcome h m .state ≡ h .state = sym (next-state h m) ∙ ap (λ (g : Held). g .state) stays in
         let none : change h m ≡ [] = changed (h .state) e′ ∙ rw (eq-eqb (h .state .run .outputs) (h .state .run .outputs) refl) in
         rw (stays, none, append-nil) t
     go (passes ok ch e f) =
-        let x = doing h m in
+        let x = deed h m in
         let g = held-by cs h (m .areas .log) t (checked-log (m .call) (h .state) (m .areas) other ch) (hands .log other ok) in
-        rw (f, changed _ (ap (λ (r : After). r .answer .state) e))
+        rw (f, changed _ (ap (λ (r : After). r .state) e))
         (tells (by-test cs (eqb (h .state .run .outputs) (x .state .run .outputs)) (h .state .log) (m .areas .log) (changeOf (m .call) (h .state) (x .state))
         (logged (m .call) (h .state) x) g (logged-is (m .call) (h .state) (m .areas) o)))
 
@@ -84,8 +83,7 @@ at-power-on h a = go (stepped h (record { call = powerOn; areas = a }))
     go : Step h (record { call = powerOn; areas = a }) → Tells [] (next h (record { call = powerOn; areas = a }))
     go (fails ok n e f) = rw f (unlogged refl)
     go (passes ok ch e f) =
-        let q = both-true (leb leastArea (length (a .log))) (leb (length (a .log)) mostArea) (ch .checks .1) in
-        rw f (tells (holds-nothing (length (a .log)) (a .log) (leb-true leastArea (length (a .log)) (q .0)) refl))
+        rw f (tells (holds-nothing (length (a .log)) (a .log) (area-long (a .log) (ch .checks .log)) refl))
 
 -- emptying begins it anew, or is refused
 at-emptying : (cs : List Change) (h : Held) (a : Areas) → let m : Made = record { call = emptying; areas = a } in
@@ -93,10 +91,11 @@ at-emptying : (cs : List Change) (h : Held) (a : Areas) → let m : Made = recor
 unfolding does logged emptyLog writing
 at-emptying cs h a hands t = go (stepped h (record { call = emptying; areas = a }))
   where
-    go : Step h (record { call = emptying; areas = a }) → Tells (if isAccepted h (record { call = emptying; areas = a }) then [] else cs) (next h (record { call = emptying; areas = a }))
+    go : Step h (record { call = emptying; areas = a })
+        → Tells (if isAccepted h (record { call = emptying; areas = a }) then [] else cs) (next h (record { call = emptying; areas = a }))
     go (fails ok n e f) = rw (ok, f) t
     go (passes ok ch e f) =
-        let s = log-long (h .state) (a .log) (ch .checks .0) in
+        let s = log-long (h .state) (a .log) (ch .checks .0 .log) in
         rw (ok, f, eq-eqb (h .state .run .outputs) (h .state .run .outputs) refl)
         (tells (holds-nothing (h .state .log .length) (a .log) (s .0) (s .1)))
 
@@ -131,22 +130,27 @@ log-tells ms hands powered = go (tells-after [] unpowered ms hands (unlogged unp
     go (unlogged z) = absurd (omega arith)
 
 -- what an accepted emptying leaves in its destination, and the count that it returns
-copied : (h : Held) (a : Areas) → let m : Made = record { call = emptying; areas = a } in
-    isAccepted h m ≡ true → (outcome h m .areas .out ≡ over (records (h .state .log) (a .log)) (a .out)) × (outcome h m .answer .written ≡ length (records (h .state .log) (a .log)))
+copied : (h : Held) (a : Areas)
+    → let m : Made = record { call = emptying; areas = a } in
+    isAccepted h m ≡ true
+    → (outcome h m .areas .out ≡ over (records (h .state .log) (a .log)) (a .out))
+    × (outcome h m .written ≡ length (records (h .state .log) (a .log)))
 unfolding outcome does emptyLog writing
 copied h a ok =
     let e = accepted-call emptying (h .state) a (eqb-true _ _ ok) .1 in
-    (ap (λ (r : After). r .areas .out) e, ap (λ (r : After). r .answer .written) e)
+    (ap (λ (r : After). r .areas .out) e, ap (λ (r : After). r .written) e)
 
 -- Emptying after any calls copies that history to the start of its destination, leaves the rest, and returns its length.
-pub emptying-tells : (ms : List Made) (a : Areas) → AllHandOn unpowered ms → let h = after unpowered ms in let m : Made = record { call = emptying; areas = a } in
-    HandsOn h m → isAccepted h m ≡ true → let told = history (R (h .state .log)) (since [] unpowered ms) in
-    (outcome h m .areas .out ≡ over told (a .out)) × (outcome h m .answer .written ≡ length told)
+pub emptying-tells : (ms : List Made) (a : Areas) → AllHandOn unpowered ms
+    → let h = after unpowered ms in let m : Made = record { call = emptying; areas = a } in
+    HandsOn h m → isAccepted h m ≡ true
+    → let told = history (R (h .state .log)) (since [] unpowered ms) in
+    (outcome h m .areas .out ≡ over told (a .out)) × (outcome h m .written ≡ length told)
 unfolding outcome
 emptying-tells ms a hands hand ok =
     let h = after unpowered ms in
     let ch = accepted-call emptying (h .state) a (eqb-true _ _ ok) .0 in
-    let s = log-long (h .state) (a .log) (ch .checks .0) in
+    let s = log-long (h .state) (a .log) (ch .checks .0 .log) in
     let told : records (h .state .log) (a .log) ≡ history (R (h .state .log)) (since [] unpowered ms) =
     ap (records (h .state .log)) (hand .log refl ok) ∙ log-tells ms hands (s .0) in
     let both = copied h a ok in

@@ -7,10 +7,10 @@ use native.Mathlib.Omega.{arith}
 use mathlib.Core.Bool.{Bool, true, false, true≢false}
 use mathlib.Core.List.{List, [], _∷_, _++_, head-eq-of-cons-eq}
 use lib.ListN.{length, take}
-use borrow.Author.Tests.{eqb-true, le-leb}
+use borrow.Author.Tests.{le-leb}
 use Rattle.formats.specs.Checks.{Res, refused, passed, text}
 use Rattle.formats.specs.Digits.{errorText}
-use Rattle.formats.proofs.Checks.{both-true, ok-at}
+use Rattle.formats.proofs.Checks.{ok-at}
 use Rattle.lines.specs.declared.Line.{Line}
 use Rattle.texts.specs.Text.{lineText}
 use Rattle.texts.proofs.Texts.{Sent}
@@ -25,16 +25,16 @@ use Rattle.controller.specs.Controller.{mode, Areas}
 use Rattle.controller.specs.Variables.{lineOf}
 use Rattle.controller.specs.Deeds.{ended, asked, answer}
 use Rattle.controller.specs.Deeds as Deeds
-use Rattle.controller.specs.Refusals.{Call, powerOn, byte, tick, press, emptying, isProgram}
+use Rattle.controller.specs.Refusals.{Call, powerOn, byte, tick, press, emptying}
 use Rattle.controller.specs.Effects.{isPowerOn, replaces}
 use Rattle.controller.specs.Calls.{After, does}
 use Rattle.controller.specs.Invariant.{Invariant}
-use Rattle.controller.proofs.Refusals.{Checked}
+use Rattle.controller.proofs.Refusals.{Checked, program-long}
 use Rattle.controller.proofs.Lines.{replyOf, answer-written, lineIn, write-stores, answered-line, line-kept}
 use Rattle.demands.specs.Histories.{Made, Held, unpowered, isAccepted, isLentProgram, next, after, HandsOn, AllHandOn}
 use Rattle.demands.specs.ReadBack.{reply, ending, Arrives, isReplaced, Unreplaced}
 use Rattle.demands.proofs.Answered.{next-invariant, invariant-always}
-use Rattle.demands.proofs.Steps.{doing, doneHeld, Step, passes, fails, stepped, refused-held}
+use Rattle.demands.proofs.Steps.{deed, heldThen, Step, passes, fails, stepped, refused-held}
 
 -- ---- what a reply is
 
@@ -45,7 +45,7 @@ reply-is h a ok = go (stepped h (ending a))
   where
     go : Step h (ending a) → reply h (ending a) ≡ replyOf (asked (h .state)) (h .state) a
     go (fails bad n e f) = absurd (true≢false (sym ok ∙ bad))
-    go (passes _ ch e f) = ap (λ (x : After). take (x .answer .written) (x .areas .out)) e ∙ answer-written (asked (h .state)) (h .state) a
+    go (passes _ ch e f) = ap (λ (x : After). take (x .written) (x .areas .out)) e ∙ answer-written (asked (h .state)) (h .state) a
 
 -- no error reply is OK
 not-ok : (e : ℕ) → ended (errorText e) ≡ ended (text "OK") → ⊥
@@ -59,7 +59,7 @@ abbrev pub lineAtAddress : Held → ℕ → Line
 lineAtAddress h k = lineOf (h .state) (h .program) k
 
 -- an accepted call that is lent the program leaves the line that it left in what it did
-accepted-line : (h : Held) (m : Made) (k : ℕ) → isLentProgram (m .call) ≡ true → next h m ≡ doneHeld h m → lineAtAddress (next h m) k ≡ lineIn (doing h m) k
+accepted-line : (h : Held) (m : Made) (k : ℕ) → isLentProgram (m .call) ≡ true → next h m ≡ heldThen h m → lineAtAddress (next h m) k ≡ lineIn (deed h m) k
 unfolding Variables.lineOf
 accepted-line h m k lent f = ap (λ (g : Held). lineAtAddress g k) f ∙ rw lent
 
@@ -78,14 +78,16 @@ module _ (h : Held) (a : Areas) (k : ℕ) (address line : List ℕ) (inside : k 
   unfolding does Deeds.byte
   written-line ok =
       let q = asked-write ok in
-      let p = ok-at (WritesLine k line) (write-asked (h .state .wire) (mode (h .state)) (h .state .panel .parameter) (wrote .short) k address line inside (wrote .collected) named) (q .1) in
+      let p = ok-at (WritesLine k line)
+      (write-asked (h .state .wire) (mode (h .state)) (h .state .panel .parameter) (wrote .short) k address line inside (wrote .collected)
+      named) (q .1) in
       go (p .line) (q .1 ∙ ap passed (p .writes)) (stepped h (ending a)) (p .sentAs)
     where
       go : (l : Line) → asked (h .state) ≡ passed (Write k (WriteLine l)) → Step h (ending a) → Sent line l
           → lineText (lineAtAddress (next h (ending a)) k) ≡ line
       go l e (fails bad n _ f) s = absurd (true≢false (sym (wrote .accepted) ∙ bad))
       go l e (passes _ ch _ f) s =
-          let len : length (a .program) ≡ 1600 = eqb-true _ _ (both-true (isProgram (a .program)) (isProgram (a .saved)) (ch .checks .0) .0) in
+          let len : length (a .program) ≡ 1600 = program-long (ch .checks .0) in
           ap lineText
           (accepted-line h (ending a) k refl f ∙ ap (λ r. lineIn (answer r (h .state) a) k) e ∙ answered-line k (WriteLine l) (h .state) a k
           ∙ write-stores l k _ a inside len (s .fits))
@@ -99,19 +101,21 @@ replaced-by-power-on k n c e = rw e
 
 module _ (k : ℕ) (h : Held) (a : Areas) (inside : k ≤ 200) (i : Invariant (h .state)) where
   -- an accepted call that is lent the program
-  lent-keeps : (n : Call) → let m : Made = record { call = n; areas = a } in
-      isPowerOn n ≡ false → isLentProgram n ≡ true → HandsOn h m → isAccepted h m ≡ true → Checked n (h .state) a → next h m ≡ doneHeld h m → replaces k n (h .state) ≡ false
+  lent-keeps : (n : Call)
+      → let m : Made = record { call = n; areas = a } in
+      isPowerOn n ≡ false → isLentProgram n ≡ true → HandsOn h m → isAccepted h m ≡ true → Checked n (h .state) a → next h m ≡ heldThen h m
+      → replaces k n (h .state) ≡ false
       → lineAtAddress (next h m) k ≡ lineAtAddress h k
   lent-keeps n other lent hands ok ch f u =
       accepted-line h (record { call = n; areas = a }) k lent f ∙ line-kept n k (h .state) a i ch inside u
       ∙ ap (λ p. lineOf (h .state) p k) (hands .program other lent ok)
 
-  emptying-keeps : let m : Made = record { call = emptying; areas = a } in next h m ≡ doneHeld h m → lineAtAddress (next h m) k ≡ lineAtAddress h k
+  emptying-keeps : let m : Made = record { call = emptying; areas = a } in next h m ≡ heldThen h m → lineAtAddress (next h m) k ≡ lineAtAddress h k
   unfolding does Deeds.emptyLog Deeds.writing Variables.lineOf
   emptying-keeps f = ap (λ (g : Held). lineAtAddress g k) f
 
   accepted-keeps : (n : Call) → let m : Made = record { call = n; areas = a } in
-      isPowerOn n ≡ false → HandsOn h m → isAccepted h m ≡ true → Checked n (h .state) a → next h m ≡ doneHeld h m → replaces k n (h .state) ≡ false
+      isPowerOn n ≡ false → HandsOn h m → isAccepted h m ≡ true → Checked n (h .state) a → next h m ≡ heldThen h m → replaces k n (h .state) ≡ false
       → lineAtAddress (next h m) k ≡ lineAtAddress h k
   accepted-keeps powerOn other hands ok ch f u = absurd (true≢false other)
   accepted-keeps (byte x) other hands ok ch f u = lent-keeps (byte x) other refl hands ok ch f u
@@ -145,7 +149,9 @@ read-line : (h : Held) (a : Areas) (k : ℕ) (address : List ℕ) → k ≤ 200 
 unfolding Variables.value
 read-line h a k address inside read named hands =
     reply-is h a (read .accepted)
-    ∙ ap (λ r. replyOf r (h .state) a) (read-asked (h .state .wire) (mode (h .state)) (h .state .panel .parameter) (read .short) k address (omega arith) (read .collected) named)
+    ∙ ap (λ r. replyOf r (h .state) a)
+    (read-asked (h .state .wire) (mode (h .state)) (h .state .panel .parameter) (read .short) k address (omega arith) (read .collected)
+    named)
     ∙ rw (le-leb k 200 inside) (ap (λ p. ended (lineText (lineOf (h .state) p k))) (hands .program refl refl (read .accepted)))
 
 -- ---- the demand

@@ -20,9 +20,10 @@ use Rattle.controller.specs.Controller.{Areas, fresh}
 use Rattle.controller.specs.Deeds.{asked}
 use Rattle.controller.specs.Deeds as Deeds
 use Rattle.controller.specs.Refusals.{Call, powerOn, byte, tick, press, emptying}
+use Rattle.controller.specs.Effects.{finished}
 use Rattle.controller.specs.Calls.{does}
 use Rattle.controller.specs.Invariant.{Invariant}
-use Rattle.controller.proofs.Wires.{Empty, answer-empties, tick-wire, press-wire, emptying-wire}
+use Rattle.controller.proofs.Wires.{Empty, answer-empties, same-wire}
 use Rattle.demands.specs.Histories.{Made, Held, unpowered, next, after}
 use Rattle.demands.specs.Received.{character, receivedCall, received}
 use Rattle.demands.proofs.Steps.{Step, passes, fails, stepped}
@@ -77,7 +78,8 @@ module _ (cs : List ℕ) (w : Wire) (i : WireInvariant w) (h : Collects cs w) wh
 
 -- ---- one call
 
-byte-done : (cs : List ℕ) (x : ℕ) (c : Controller) (a : Areas) → WireInvariant (c .wire) → Collects cs (c .wire) → Collects (character cs x) (does (byte x) c a .state .wire)
+byte-done : (cs : List ℕ) (x : ℕ) (c : Controller) (a : Areas) → WireInvariant (c .wire) → Collects cs (c .wire)
+    → Collects (character cs x) (does (byte x) c a .state .wire)
 unfolding does Deeds.byte
 byte-done cs x c a i h = go (eqb x 13) refl
   where
@@ -91,7 +93,7 @@ fresh-collects n = record { first = refl; more = refl }
 
 collects-next : (cs : List ℕ) (h : Held) (k : Call) (a : Areas) → let m : Made = record { call = k; areas = a } in
     Invariant (h .state) → Collects cs (h .state .wire) → Step h m → Collects (receivedCall cs k h m) (next h m .state .wire)
-unfolding does Deeds.powerUp
+unfolding does Deeds.powerUp finished
 collects-next cs h powerOn a i c (fails ok n e f) = rw f (fresh-collects 0)
 collects-next cs h (byte x) a i c (fails ok n e f) = rw (ok, f) c
 collects-next cs h tick a i c (fails ok n e f) = rw f c
@@ -99,11 +101,12 @@ collects-next cs h (press b) a i c (fails ok n e f) = rw f c
 collects-next cs h emptying a i c (fails ok n e f) = rw f c
 collects-next cs h powerOn a i c (passes ok ch e f) = rw f (fresh-collects (length (a .log)))
 collects-next cs h (byte x) a i c (passes ok ch e f) = rw (ok, f) (byte-done cs x (h .state) a (i .wire) c)
-collects-next cs h tick a i c (passes ok ch e f) = rw (f, tick-wire (h .state) a) c
-collects-next cs h (press b) a i c (passes ok ch e f) = rw (f, press-wire b (h .state) a) c
-collects-next cs h emptying a i c (passes ok ch e f) = rw (f, emptying-wire (h .state) a) c
+collects-next cs h tick a i c (passes ok ch e f) = rw (f, same-wire tick (h .state) a refl refl refl) c
+collects-next cs h (press b) a i c (passes ok ch e f) = rw (f, same-wire (press b) (h .state) a refl refl refl) c
+collects-next cs h emptying a i c (passes ok ch e f) = rw (f, same-wire emptying (h .state) a refl refl refl) c
 
-collects-after : (cs : List ℕ) (ms : List Made) (h : Held) → Invariant (h .state) → Collects cs (h .state .wire) → Collects (received cs h ms) (after h ms .state .wire)
+collects-after : (cs : List ℕ) (ms : List Made) (h : Held) → Invariant (h .state) → Collects cs (h .state .wire)
+    → Collects (received cs h ms) (after h ms .state .wire)
 unfolding received after
 collects-after cs [] h i c = c
 collects-after cs (m ∷ ms) h i c =

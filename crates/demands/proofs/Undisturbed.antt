@@ -6,6 +6,7 @@ use mathlib.Core.Bool.{Bool, true, false, true≢false}
 use mathlib.Core.List.{List, [], _∷_}
 use lib.Dec.{eqb}
 use borrow.Author.Tests.{eqb-false}
+use Rattle.formats.proofs.Checks.{both-false, neither}
 use Rattle.running.specs.declared.Run.{Run}
 use Rattle.running.specs.Running.{tick, ticks}
 use Rattle.running.proofs.Waiting.{ticks-add, was-on}
@@ -13,10 +14,10 @@ use Rattle.controller.specs.Controller.{Areas}
 use Rattle.controller.specs.Refusals.{Call, powerOn, byte, tick as tickCall, press, emptying}
 use Rattle.controller.specs.Calls.{does}
 use Rattle.controller.specs.Effects.{finished, specialCode, isPowerOn}
-use Rattle.controller.proofs.Moving.{Same, byte-same, paused-same, press-same, emptying-same, MovedAs, tick-as}
+use Rattle.controller.proofs.Moving.{Same, call-same, byte-same, MovedAs, tick-as}
 use Rattle.demands.specs.Histories.{Made, Held, isAccepted, next, after, HandsOn, AllHandOn}
 use Rattle.demands.specs.Undisturbed.{isBroken, Unbroken, tickOf, counts, unpaused}
-use Rattle.demands.proofs.Steps.{doing, doneHeld, Step, passes, fails, stepped, refused-held, program-held, both-false, neither}
+use Rattle.demands.proofs.Steps.{deed, heldThen, Step, passes, fails, stepped, refused-held, program-held}
 
 -- what is held moves on by n ticks, and by nothing else
 pub record Goes (h : Held) (n : ℕ) (h′ : Held) : Type 0 where
@@ -43,7 +44,7 @@ module _ (h : Held) (m : Made) (other : isPowerOn (m .call) ≡ false) (hands : 
   stays e = record { run = ap (λ (g : Held). g .state .run) e ∙ sym (no-ticks (h .program) (h .state .run)); program = ap (λ (g : Held). g .program) e }
 
   -- an accepted call that leaves the run
-  same-goes : isAccepted h m ≡ true → next h m ≡ doneHeld h m → Same (h .state) (m .areas) (doing h m) → Goes h 0 (next h m)
+  same-goes : isAccepted h m ≡ true → next h m ≡ heldThen h m → Same (h .state) (m .areas) (deed h m) → Goes h 0 (next h m)
   same-goes ok f s =
       record {
         run = ap (λ (g : Held). g .state .run) f ∙ s .run ∙ sym (no-ticks (h .program) (h .state .run));
@@ -52,18 +53,19 @@ module _ (h : Held) (m : Made) (other : isPowerOn (m .call) ≡ false) (hands : 
 
 module _ (h : Held) (a : Areas) (hands : HandsOn h (record { call = tickCall; areas = a })) where
   -- an accepted tick that is not taken while paused
-  tick-goes : let m : Made = record { call = tickCall; areas = a } in isAccepted h m ≡ true → next h m ≡ doneHeld h m
-      → MovedAs (tick (a .program) (h .state .run)) (h .state) (a .program) (doing h m) → Goes h 1 (next h m)
+  tick-goes : let m : Made = record { call = tickCall; areas = a } in isAccepted h m ≡ true → next h m ≡ heldThen h m
+      → MovedAs (tick (a .program) (h .state .run)) (h .state) (a .program) (deed h m) → Goes h 1 (next h m)
   tick-goes ok f d =
       record {
-        run = ap (λ (g : Held). g .state .run) f ∙ d .run ∙ sym (one-tick (a .program) (h .state .run)) ∙ ap (λ p. ticks p 1 (h .state .run)) (hands .program refl refl ok);
+        run = ap (λ (g : Held). g .state .run) f ∙ d .run ∙ sym (one-tick (a .program) (h .state .run))
+            ∙ ap (λ p. ticks p 1 (h .state .run)) (hands .program refl refl ok);
         program = program-held h (record { call = tickCall; areas = a }) refl ok hands f (d .program);
       }
 
 -- One call that breaks nothing off moves the run by as many ticks as it counts, and by nothing else.
 goes : (h : Held) → h .state .run .on ≡ true → (k : Call) (a : Areas) → let m : Made = record { call = k; areas = a } in
     HandsOn h m → isBroken h m ≡ false → Step h m → Goes h (counts h m) (next h m)
-unfolding counts isBroken does
+unfolding counts isBroken does finished
 goes h on powerOn a hands u s = absurd (true≢false u)
 goes h on (byte x) a hands u (fails ok n e f) = stays h _ refl hands (refused-held h _ refl f)
 goes h on tickCall a hands u (fails ok n e f) = rw ok (stays h _ refl hands (refused-held h _ refl f))
@@ -75,11 +77,11 @@ goes h on (byte x) a hands u (passes ok ch e f) =
 goes h on tickCall a hands u (passes ok ch e f) =
     let m : Made = record { call = tickCall; areas = a } in
     by-pause (isAccepted h m) (h .state .paused) (λ n. Goes h n (next h m)) ok
-    (λ p. same-goes h m refl hands ok f (paused-same (h .state) a p)) (λ p. tick-goes h a hands ok f (tick-as (h .state) a p))
+    (λ p. same-goes h m refl hands ok f (call-same tickCall (h .state) a (rw p) refl)) (λ p. tick-goes h a hands ok f (tick-as (h .state) a p))
 goes h on (press n) a hands u (passes ok ch e f) =
     let b = neither (eqb (specialCode (finished (press n) (h .state))) 1) (eqb n 1) (both-false _ _ ok u) in
-    same-goes h _ refl hands ok f (press-same n (h .state) a on (b .1))
-goes h on emptying a hands u (passes ok ch e f) = same-goes h _ refl hands ok f (emptying-same (h .state) a)
+    same-goes h _ refl hands ok f (call-same (press n) (h .state) a (rw (b .1)) refl)
+goes h on emptying a hands u (passes ok ch e f) = same-goes h _ refl hands ok f (call-same emptying (h .state) a refl refl)
 
 -- While no stop and no power-on comes and the program has not ended by the rules, the run is the one that the rules give.
 pub undisturbed : (ms : List Made) (h : Held) → AllHandOn h ms → Unbroken h ms → ticks (h .program) (unpaused h ms) (h .state .run) .on ≡ true

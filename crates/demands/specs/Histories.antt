@@ -32,7 +32,7 @@ unfoldable pub outcome : Held → Made → After
 outcome h m = call (m .call) (h .state) (m .areas)
 
 abbrev pub isAccepted : Held → Made → Bool
-isAccepted h m = eqb (outcome h m .answer .refusal) 0
+isAccepted h m = eqb (outcome h m .refusal) 0
 
 -- "Every call but emptying is lent the program area and the log"; emptying is lent the log
 abbrev pub isLentProgram : Call → Bool
@@ -44,7 +44,7 @@ isLentProgram emptying = false
 
 unfoldable pub next : Held → Made → Held
 next h m = record {
-  state = outcome h m .answer .state;
+  state = outcome h m .state;
   program = if isAccepted h m && isLentProgram (m .call) then outcome h m .areas .program else h .program;
   log = if isAccepted h m then outcome h m .areas .log else h .log;
 }

@@ -1,16 +1,17 @@
 -- The worked points of 01 that are marked P, as one list.
 -- A point is a list of exchanges, each a text that arrives and the reply to its last byte: ^ is byte 13, # is a tick, any other
 -- character a wire byte. Every call of a point must be accepted, and only the last of an exchange may answer or run lines. All
--- points start from a power-on whose saved copy holds 200 end marks with outputs 0 and whose log has 24 bytes; the program area that
--- is lent holds other lines, so that loading shows. At the end the log is emptied into 24 bytes of 0.
+-- points start from a power-on whose saved copy holds 200 end marks with outputs 0 and whose log has 24 bytes, the least; the program area that
+-- is lent holds other lines, so that loading shows. At the end the log is emptied into as many bytes of 0.
 use Prim.Native.Nat.{ℕ, zero, suc}
 use Prim.Native.Char.{code}
 use Prim.Native.String.{String}
-use mathlib.Core.Bool.{Bool, true, false, _&&_}
+use mathlib.Core.Bool.{Bool, true, _&&_}
 use mathlib.Core.List.{List, [], _∷_, _++_, map}
 use lib.ListN.{take, replicate}
 use lib.Dec.{eqb}
-use Rattle.formats.specs.Checks.{if_then_else_, text}
+use Rattle.formats.specs.Checks.{if_then_else_, text, same}
+use Rattle.log.specs.Record.{leastArea}
 use Rattle.controller.specs.declared.Controller.{Controller}
 use Rattle.controller.specs.Controller.{Areas, withOut, fresh}
 use Rattle.controller.specs.Refusals.{Call, powerOn, byte, tick, emptying}
@@ -52,12 +53,6 @@ pub record Trial : Type 0 where
   pub areas : Areas
   pub right : Bool
 
-abbrev pub same : List ℕ → List ℕ → Bool
-same [] [] = true
-same [] (y ∷ ys) = false
-same (x ∷ xs) [] = false
-same (x ∷ xs) (y ∷ ys) = eqb x y && same xs ys
-
 -- byte 13 for ^
 abbrev pub wireByte : ℕ → ℕ
 wireByte x = if eqb x (code "^") then 13 else x
@@ -68,9 +63,9 @@ callOf x = if eqb x (code "#") then tick else byte (wireByte x)
 -- one call, which must be accepted, answer this and run so many lines
 unfoldable pub judged : List ℕ → ℕ → Bool → After → Trial
 judged reply lines right r = record {
-  state = r .answer .state;
+  state = r .state;
   areas = r .areas;
-  right = right && eqb (r .answer .refusal) 0 && same (take (r .answer .written) (r .areas .out)) reply && eqb (r .answer .lines) lines;
+  right = right && eqb (r .refusal) 0 && same (take (r .written) (r .areas .out)) reply && eqb (r .lines) lines;
 }
 
 -- each call is lent a reply area of 16 bytes of 0; the last character's call is the one that answers
@@ -99,12 +94,12 @@ begun = judged [] 0 true (call powerOn (fresh 0) lent)
     another = 0x46 ∷ 4 ∷ 0 ∷ 9 ∷ 0 ∷ 0 ∷ 0 ∷ 0 ∷ []
 
     lent : Areas
-    lent = record { program = times 200 another; saved = times 200 endMark; log = replicate 24 0; out = [] }
+    lent = record { program = times 200 another; saved = times 200 endMark; log = replicate leastArea 0; out = [] }
 
 unfoldable pub passes : Point → Bool
 passes q =
     let t = tried (q .exchanges) begun in
-    judged (q .records) 0 (t .right) (call emptying (t .state) (withOut (replicate 24 0) (t .areas))) .right
+    judged (q .records) 0 (t .right) (call emptying (t .state) (withOut (replicate leastArea 0) (t .areas))) .right
 
 -- the numbers of the points that fail, the first being number n
 unfoldable pub failing : ℕ → List Point → List ℕ

@@ -12,7 +12,7 @@ use Rattle.demands.specs.Histories.{Made, Held, outcome, isAccepted, nex
 
 -- the reply of a call, as it stands in its area
 unfoldable pub reply : Held → Made → List ℕ
-reply h m = take (outcome h m .answer .written) (outcome h m .areas .out)
+reply h m = take (outcome h m .written) (outcome h m .areas .out)
 
 -- "Byte 13 ends a command."
 abbrev pub ending : Areas → Made

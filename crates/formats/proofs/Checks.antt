@@ -5,6 +5,7 @@ use mathlib.Core.Path.{_≡_, refl, sym, ap}
 use mathlib.Core.Bool.{Bool, true, false, _&&_, _||_, false≢true}
 use mathlib.Core.List.{List, [], _∷_, _++_}
 use mathlib.Core.Logic.{_≢_}
+use mathlib.Core.Option.{none, some}
 use native.Mathlib.Omega.{arith}
 use native.Mathlib.Nat.{not-suc-le-zero}
 use lib.Dec.{eqb}
@@ -19,11 +20,11 @@ if-case P true f g = f refl
 if-case P false f g = g refl
 
 -- the branch that a test takes
-pub taken : {A : Type 0} (t : Bool) (x y : A) → t ≡ true → x ≡ (if t then x else y)
-taken t x y e = ap (λ u. if u then x else y) (sym e)
+pub if-true : {A : Type 0} (t : Bool) (x y : A) → t ≡ true → x ≡ (if t then x else y)
+if-true t x y e = ap (λ u. if u then x else y) (sym e)
 
-pub left : {A : Type 0} (t : Bool) (x y : A) → t ≡ false → y ≡ (if t then x else y)
-left t x y e = ap (λ u. if u then x else y) (sym e)
+pub if-false : {A : Type 0} (t : Bool) (x y : A) → t ≡ false → y ≡ (if t then x else y)
+if-false t x y e = ap (λ u. if u then x else y) (sym e)
 
 pub both-true : (a b : Bool) → (a && b) ≡ true → (a ≡ true) × (b ≡ true)
 both-true true b e = (refl, e)
@@ -32,6 +33,20 @@ both-true false b e = (e, absurd (false≢true e))
 pub either-true : {X : Type 0} (a b : Bool) → (a || b) ≡ true → (a ≡ true → X) → (b ≡ true → X) → X
 either-true true b e f g = f refl
 either-true false b e f g = g e
+
+-- a conjunction is false by its second test, where the first is true
+pub both-false : (a b : Bool) → a ≡ true → (a && b) ≡ false → b ≡ false
+both-false true b t e = e
+both-false false b t e = absurd (false≢true t)
+
+-- a disjunction is false by both its tests
+pub neither : (a b : Bool) → (a || b) ≡ false → (a ≡ false) × (b ≡ false)
+neither true b e = absurd (false≢true (sym e))
+neither false b e = (refl, e)
+
+-- nothing is not something
+pub not-some : {A : Type 0} {k : A} → none ≡ some k → ⊥
+not-some e = let z : _≡_ {A = ℕ} 0 1 = cc in omega arith
 
 -- a test that antt computes at each number below n
 abbrev pub allBelow : (ℕ → Bool) → ℕ → Bool

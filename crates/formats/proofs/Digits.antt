@@ -8,7 +8,8 @@ use lib.ListN.{length, take, getD, length-append}
 use lib.Seq.{take-suc, take-all, length-take-le}
 use lib.Dec.{ltb}
 use native.Mathlib.Omega.{arith}
-use native.Mathlib.Nat.{not-suc-le-zero, div-add-mod', div-lt-iff-lt-mul, mod-lt, mod-eq-of-lt, div-eq-of-lt, pow-suc, pow-zero, mul-le-mul-right, mul-add-div-right, mul-add-mod-self-right}
+use native.Mathlib.Nat.{not-suc-le-zero, div-add-mod', div-lt-iff-lt-mul, mod-lt, mod-eq-of-lt, div-eq-of-lt, pow-suc}
+use native.Mathlib.Nat.{pow-zero, mul-le-mul-right, mul-add-div-right, mul-add-mod-self-right}
 use borrow.Author.Tests.{lt-ltb, ltb-true}
 use Rattle.formats.specs.Checks.{all}
 use Rattle.formats.specs.Digits.{digits, numberAfter, number}

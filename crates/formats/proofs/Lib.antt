@@ -2,5 +2,7 @@ pub mod Checks
 pub mod Digits
 pub mod Characters
 pub mod Loops
-pub mod Answers
+pub mod NumbersRead
 pub mod Parts
+pub mod Bytes
+pub mod Places

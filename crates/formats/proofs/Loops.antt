@@ -7,13 +7,13 @@ use native.Mathlib.Numerals.{add-one}
 use native.Mathlib.Nat.{not-suc-le-zero, le-trans, mod-lt, pow-le-pow-left, pow-le-pow-right}
 use mathlib.Core.Bool.{Bool, true, false, _&&_}
 use mathlib.Core.List.{List, [], _∷_, _++_, map, append-nil, append-assoc}
-use lib.ListN.{length, take, drop, getD, set, length-map}
-use lib.Seq.{take-suc, take-all, length-take-le, paste, paste-suc}
+use lib.ListN.{length, take, drop, getD, length-map}
+use lib.Seq.{take-suc, take-all, length-take-le}
 use borrow.Author.Tests.{lt-ltb, le-ltb}
 use Rattle.formats.specs.Checks.{_>>_, _orElse_, all}
 use Rattle.formats.specs.Digits.{digits, numberAfter, number, digitChar, digitValue, isDigit, shown, numberIn}
 use Rattle.formats.specs.declared.Number.the-variants.{Is, No}
-use Rattle.formats.specs.Values.{numberOf}
+use Rattle.formats.specs.NumbersAndTexts.{numberOf}
 use Rattle.formats.proofs.Checks.{all-snoc}
 use Rattle.formats.proofs.Digits.{number-snoc, number-below}
 use Rattle.formats.proofs.Characters.{all-values}
@@ -54,7 +54,8 @@ module _ (base : ℕ) (cs : List ℕ) (i v d : ℕ) (lt : i < length cs) (r : Re
   read-more below =
       let e : take (i + 1) cs ≡ take i cs ++ (getD cs i 0 ∷ []) = ap (λ n. take n cs) (add-one i) ∙ take-suc cs i 0 lt in
       record {
-        digits = ap (all (isDigit base)) e ∙ all-snoc (isDigit base) (take i cs) (getD cs i 0) (r .digits) (lt-ltb (digitValue (getD cs i 0)) base (rw is at below));
+        digits = ap (all (isDigit base)) e
+            ∙ all-snoc (isDigit base) (take i cs) (getD cs i 0) (r .digits) (lt-ltb (digitValue (getD cs i 0)) base (rw is at below));
         value =
             ap₂ (λ w x. w * base + x) (r .value) is
             ∙ sym (ap (λ l. number base (map digitValue l)) e ∙ ap (number base) (map-snoc digitValue (take i cs) (getD cs i 0))
@@ -80,28 +81,20 @@ read-all base cs i v le r =
     rw (d, w)
 
 -- one digit more still fits
-pub more-fits-u32 : (base : ℕ) (cs : List ℕ) (i v d : ℕ) → base ≤ 16 → 2 ≤ base → length cs ≤ 8 → i < length cs → Read base cs i v → d ≡ digitValue (getD cs i 0)
+pub more-fits-u32 : (base : ℕ) (cs : List ℕ) (i v d : ℕ) → base ≤ 16 → 2 ≤ base → length cs ≤ 8 → i < length cs → Read base cs i v
+    → d ≡ digitValue (getD cs i 0)
     → d < base → v * base + d < 4294967296
 more-fits-u32 base cs i v d le two eight lt r is below =
     read-fits-u32 base cs (i + 1) (v * base + d) le two (omega arith) (omega arith) (read-more base cs i v d lt r is below)
 
 -- ---- writing a text
 
--- one character more
-pub put-more : (area₀ chars area : List ℕ) (i : ℕ) → area ≡ paste area₀ 0 chars i → i < length area₀ → i < length chars
-    → set area i (getD chars i 0) ≡ paste area₀ 0 chars (i + 1)
-put-more area₀ chars area i e a b =
-    let z : 0 + i ≡ i = omega arith in
-    ap (λ l. set l i (getD chars i 0)) e ∙ ap (λ j. set (paste area₀ 0 chars i) j (getD chars i 0)) (sym z)
-    ∙ paste-suc area₀ 0 chars i 0 (omega arith) b ∙ ap (paste area₀ 0 chars) (sym (add-one i))
-
--- what stands there after all turns
-
-pub text-put : (area chars : List ℕ) (len : ℕ) → len ≤ length chars → (paste area 0 chars len ≡ take len chars ++ drop (length (take len chars)) area) × (len ≡ length (take len chars))
-text-put area chars len le =
-    let e : length (take len chars) ≡ len = length-take-le len chars le in
-    let z : 0 + len ≡ len = omega arith in
-    (rw (z, e), sym e)
+-- a text copied to the start of an area
+pub text-put : (area chars : List ℕ) (len : ℕ) {area′ : List ℕ} → len ≤ length chars → area′ ≡ take len chars ++ drop len area
+    → (area′ ≡ take len chars ++ drop (length (take len chars)) area) × (len ≡ length (take len chars))
+text-put area chars len le e =
+    let n : length (take len chars) ≡ len = length-take-le len chars le in
+    (e ∙ rw n, sym n)
 
 -- ---- showing a number, digit by digit
 

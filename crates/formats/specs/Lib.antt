@@ -1,3 +1,4 @@
 pub mod Checks
 pub mod Digits
-pub mod Values
+pub mod Bytes
+pub mod NumbersAndTexts

@@ -1,12 +1,14 @@
-// The formats in which numbers and texts stand on the wire: characters as digits, numbers read from characters, and texts of at
-// most 16 characters, the longest reply, that numbers are shown in.
-// Definitions: specs/Digits.antt for what a number's characters are, specs/Values.antt for what the types below stand for.
+// The formats in which numbers and texts stand in an area and on the wire: numbers in bytes, characters as digits, numbers read from
+// characters, and texts of at most 16 characters, the longest reply, that numbers are shown in.
+// Definitions: specs/Digits.antt for what a number's digits are, specs/Bytes.antt for bytes in a row, specs/NumbersAndTexts.antt for what the types
+// below stand for.
 ghost use mathlib.Core.Path.{_≡_};
 ghost use mathlib.Core.List.{[], _∷_, _++_};
 ghost use Prim.Native.Nat.{_+_, _≤_, _<_};
-ghost use lib.ListN.{length, drop};
-ghost use Rattle.formats.specs.Digits.{digitValue, digitChar, shown, numberIn, hIn, dIn};
-ghost use Rattle.formats.specs.Values.{numberOf, byteOf, textOf};
+ghost use lib.ListN.{length, take, drop};
+ghost use Rattle.formats.specs.Digits.{number, digitValue, digitChar, shown, numberIn, hIn, dIn, errorText};
+ghost use Rattle.formats.specs.Bytes.{bytes};
+ghost use Rattle.formats.specs.NumbersAndTexts.{numberOf, byteOf, textOf};
 
 // What characters stand for: a number, or none.
 pub enum Number {
@@ -25,6 +27,55 @@ pub struct Text {
     pub chars: [u8; 16],
     pub len: usize,
 }
+
+// ---- bytes
+
+// Two bytes as a number, high byte first.
+pub fn number_of_two(a: u8, b: u8) -> u16
+    ensures number { λ r. ⌜ r ≡ number 256 (a ∷ b ∷ []) ⌝ }
+{
+    (a as u16) * 256 + (b as u16)
+}
+
+// Four bytes as a number, high byte first.
+pub fn number_of_four(a: u8, b: u8, c: u8, d: u8) -> u32
+    ensures number { λ r. ⌜ r ≡ number 256 (a ∷ b ∷ c ∷ d ∷ []) ⌝ }
+{
+    (((a as u32) * 256 + (b as u32)) * 256 + (c as u32)) * 256 + (d as u32)
+}
+
+// A number in two bytes, high byte first.
+pub fn two_bytes(v: u16) -> [u8; 2]
+    ensures bytes { λ r. ⌜ r ≡ bytes 2 v ⌝ }
+{
+    [(v / 256 % 256) as u8, (v % 256) as u8]
+}
+
+// A number in four bytes, high byte first.
+pub fn four_bytes(v: u32) -> [u8; 4]
+    ensures bytes { λ r. ⌜ r ≡ bytes 4 v ⌝ }
+{
+    [
+        (v / 256 / 256 / 256 % 256) as u8,
+        (v / 256 / 256 % 256) as u8,
+        (v / 256 % 256) as u8,
+        (v % 256) as u8,
+    ]
+}
+
+// The first n bytes of `to` become those of `from`, and the rest of `to` stays.
+pub fn copy(from: &[u8], to: &mut [u8], n: usize)
+    requires { ⌜ (n ≤ length (now from)) × (n ≤ length (now to)) ⌝ }
+    ensures copied { λ _. ⌜ now (to .exit) ≡ take n (now (from .entry)) ++ drop n (now (to .entry)) ⌝ }
+{
+    let mut i: usize = 0;
+    while i < n {
+        to[i] = from[i];
+        i += 1;
+    }
+}
+
+// ---- characters
 
 // The value of a digit's character; 16 for every other character.
 pub fn digit_value(c: u8) -> u8
@@ -144,11 +195,14 @@ impl Text {
     {
         let len = self.len;
         let chars = self.chars;
-        let mut i: usize = 0;
-        while i < len {
-            area[i] = chars[i];
-            i += 1;
-        }
+        copy(&chars, area, len);
         len
     }
+}
+
+// E and the number of an error or a refusal in three digits.
+pub fn error_text(e: u8) -> Text
+    ensures text { λ r. ⌜ (textOf r ≡ errorText e) × (r .len ≡ 4) ⌝ }
+{
+    Text::new().with(b'E').shown(10, 3, e as u32)
 }

@@ -7,6 +7,7 @@ use lib.ListN.{length, drop, drop-of-length-le}
 use lib.Seq.{take-at, drop-append-add, drop-drop}
 use native.Mathlib.Omega.{arith}
 use native.Mathlib.Numerals.{add-one}
+use Rattle.formats.specs.Bytes.{placed}
 use Rattle.lines.specs.Line.{readLine, bytesOf}
 use Rattle.lines.specs.Program.{lineAt, putLine, cleanedLines, cleaned}
 use Rattle.lines.proofs.Places.{length-cleaned}
@@ -30,7 +31,7 @@ unfolding cleanedLines
 cleaning-begins p to = refl
 
 pub cleaning-goes-on : (i : ℕ) (p to : List ℕ) → putLine i (lineAt p i) (cleanedTo i p to) ≡ cleanedTo (i + 1) p to
-unfolding putLine
+unfolding placed
 cleaning-goes-on i p to =
     let done = cleanedLines i p in
     let rest = drop (8 * i) to in

@@ -8,12 +8,13 @@ use lib.ListN.{length, getD}
 use lib.Dec.{leb, eqb}
 use native.Mathlib.Omega.{arith}
 use borrow.Author.Tests.{le-leb, leb-true}
-use Rattle.formats.specs.Digits.{digits, numberAfter}
+use Rattle.formats.specs.Digits.{digits, numberAfter, number}
+use Rattle.formats.specs.Bytes.{field, bytes}
 use Rattle.formats.proofs.Checks.{if-case, both-true}
-use Rattle.formats.proofs.Digits.{number-digits}
+use Rattle.formats.proofs.Bytes.{number-bytes}
 use Rattle.lines.specs.declared.Line.{Line}
 use Rattle.lines.specs.declared.Line.the-variants.{State, For, Next}
-use Rattle.lines.specs.Line.{endMark, isCounter, field, isState, isFor, isNext, readLine, bytesOf}
+use Rattle.lines.specs.Line.{noLine, isCounter, isState, isFor, isNext, readLine, bytesOf}
 
 -- ---- the ranges
 
@@ -29,8 +30,8 @@ pub record Ranged (l : Line) : Type 0 where
 for-ranged : {c n : ℕ} → isCounter c ≡ true → n ≤ 9999 → Ranged (For c n)
 for-ranged e le = record { range = (e, le) }
 
-end-ranged : Ranged endMark
-end-ranged = record { range = omega arith }
+none-ranged : Ranged noLine
+none-ranged = record { range = omega arith }
 
 -- Whatever the eight bytes are, the line that they are read as lies in the ranges.
 pub read-ranged : (bs : List ℕ) → Ranged (readLine bs)
@@ -49,7 +50,7 @@ read-ranged bs =
     (λ e.
     let p = both-true (eqb first 0x4E && isCounter second) (eqb (field 2 6 bs) 0) e in
     record { range = both-true (eqb first 0x4E) (isCounter second) (p .0) .1 }) λ _.
-    end-ranged
+    none-ranged
 
 -- ---- a line written and read
 
@@ -59,19 +60,14 @@ Fits (State outputs time) = (outputs < 256 ^ 4) × (time ≤ 9999)
 Fits (For counter count) = (isCounter counter ≡ true) × (count ≤ 9999)
 Fits (Next counter) = isCounter counter ≡ true
 
-pub record Fitting (l : Line) : Type 0 where
-  pub fits : Fits l
-
-four : (v : ℕ) → v < 256 ^ 4 → numberAfter 256 0 (digits 256 4 v) ≡ v
-four v lt = number-digits 256 (omega arith) 4 v lt
-
-two : (v : ℕ) → v ≤ 9999 → numberAfter 256 0 (digits 256 2 v) ≡ v
-two v le = number-digits 256 (omega arith) 2 v (omega arith)
+-- a time or a count fits two bytes
+two : (v : ℕ) → v ≤ 9999 → number 256 (bytes 2 v) ≡ v
+two v le = number-bytes 2 v (omega arith)
 
 -- The eight bytes of a line, whatever follows them, are read as that line.
 pub bytes-back : (l : Line) (r : List ℕ) → Fits l → readLine (bytesOf l ++ r) ≡ l
 unfolding readLine bytesOf digits numberAfter
-bytes-back (State o t) r f = let a = four o (f .0) in let b = two t (f .1) in rw (a, b, le-leb t 9999 (f .1))
+bytes-back (State o t) r f = let a = number-bytes 4 o (f .0) in let b = two t (f .1) in rw (a, b, le-leb t 9999 (f .1))
 bytes-back (For c n) r f = let b = two n (f .1) in rw (f .0, b, le-leb n 9999 (f .1))
 bytes-back (Next c) r f = rw f
 

@@ -2,14 +2,15 @@
 -- Assumes nothing.
 use mathlib.Core.Path.{_≡_, refl, sym, ap, _∙_}
 use mathlib.Core.Logic.{_≢_}
-use Prim.Native.Nat.{ℕ, zero, suc, _+_, _*_, _-_, _≤_, _<_}
+use Prim.Native.Nat.{ℕ, zero, suc, _+_, _*_, _≤_, _<_}
 use mathlib.Core.Bool.{Bool, true, false}
-use mathlib.Core.List.{List, [], _∷_, _++_, append-assoc}
-use lib.ListN.{length, take, drop, length-append, length-drop, take-append-drop}
-use lib.Seq.{drop-at, length-take-le, take-append-le, drop-append-le, drop-append-add, drop-drop}
+use mathlib.Core.List.{List, [], _∷_, append-nil}
+use lib.ListN.{length, take, drop, length-append}
 use lib.Dec.{ltb}
 use native.Mathlib.Omega.{arith}
 use borrow.Author.Tests.{ltb-true, ltb-false}
+use Rattle.formats.specs.Bytes.{part}
+use Rattle.formats.proofs.Places.{same-place, other-place}
 use Rattle.lines.specs.declared.Line.{Line}
 use Rattle.lines.specs.Line.{readLine, bytesOf}
 use Rattle.lines.specs.Program.{lineAt, putLine, cleanedLines, firstNext, nextAfter}
@@ -35,51 +36,21 @@ pub line-ranged : (p : List ℕ) (k : ℕ) → Ranged (lineAt p k)
 unfolding lineAt
 line-ranged p k = read-ranged (drop (8 * k) p)
 
-pub same-line : (p q : List ℕ) (k : ℕ) → take 8 (drop (8 * k) p) ≡ take 8 (drop (8 * k) q) → lineAt p k ≡ lineAt q k
+pub same-line : (p q : List ℕ) (k : ℕ) → part (8 * k) 8 p ≡ part (8 * k) 8 q → lineAt p k ≡ lineAt q k
 unfolding lineAt
 same-line p q k e = sym (eight (drop (8 * k) p)) ∙ ap readLine e ∙ eight (drop (8 * k) q)
 
--- a part that lies in the front of a list
-part-of-front : (n m : ℕ) (xs ys : List ℕ) → n + m ≤ length xs → take m (drop n (xs ++ ys)) ≡ take m (drop n xs)
-part-of-front n m xs ys le =
-    rw (drop-append-le n xs ys (omega arith)) (take-append-le m (drop n xs) ys (rw length-drop (omega arith)))
-
 module _ (j : ℕ) (l : Line) (p : List ℕ) (inside : 8 * j + 8 ≤ length p) where
-  front : length (take (8 * j) p) ≡ 8 * j
-  front = length-take-le (8 * j) p (omega arith)
-
   -- The line that is stored is found.
   pub put-same : Fits l → lineAt (putLine j l p) j ≡ l
-  unfolding lineAt putLine
-  put-same f = rw (drop-at (take (8 * j) p) (bytesOf l ++ drop (8 * j + 8) p) (8 * j) front) (bytes-back l _ f)
-
-  put-before : (k : ℕ) → k < j → lineAt (putLine j l p) k ≡ lineAt p k
-  unfolding putLine
-  put-before k lt =
-      same-line _ p k
-      (part-of-front (8 * k) 8 (take (8 * j) p) (bytesOf l ++ drop (8 * j + 8) p) (rw front (omega arith))
-      ∙ sym (part-of-front (8 * k) 8 (take (8 * j) p) (drop (8 * j) p) (rw front (omega arith)))
-      ∙ ap (λ q. take 8 (drop (8 * k) q)) (take-append-drop (8 * j) p))
-
-  put-after : (k : ℕ) → j < k → lineAt (putLine j l p) k ≡ lineAt p k
-  unfolding lineAt putLine
-  put-after k lt =
-      let over : length (take (8 * j) p ++ bytesOf l) + (8 * k - (8 * j + 8)) ≡ 8 * k = simp (length-append, front, length-bytes) (omega arith) in
-      let back : 8 * j + 8 + (8 * k - (8 * j + 8)) ≡ 8 * k = omega arith in
-      ap readLine
-      (ap (λ q. drop (8 * k) q) (sym (append-assoc (take (8 * j) p) (bytesOf l) (drop (8 * j + 8) p)))
-      ∙ ap (λ n. drop n (take (8 * j) p ++ bytesOf l ++ drop (8 * j + 8) p)) (sym over)
-      ∙ drop-append-add (take (8 * j) p ++ bytesOf l) (drop (8 * j + 8) p) (8 * k - (8 * j + 8))
-      ∙ drop-drop (8 * k - (8 * j + 8)) (8 * j + 8) p
-      ∙ ap (λ n. drop n p) back)
+  unfolding lineAt
+  put-same f =
+      sym (eight (drop (8 * j) (putLine j l p)))
+      ∙ ap readLine (same-place 8 j (bytesOf l) p (length-bytes l) inside ∙ sym (append-nil (bytesOf l))) ∙ bytes-back l [] f
 
   -- Every other line stays.
   pub put-other : (k : ℕ) → k ≢ j → lineAt (putLine j l p) k ≡ lineAt p k
-  put-other k ne = go (ltb k j) refl
-    where
-      go : (t : Bool) → ltb k j ≡ t → lineAt (putLine j l p) k ≡ lineAt p k
-      go true e = put-before k (ltb-true k j e)
-      go false e = let le : j ≤ k = ltb-false k j e in put-after k (omega arith)
+  put-other k ne = same-line (putLine j l p) p k (other-place 8 j (bytesOf l) p (length-bytes l) inside k ne)
 
 -- ---- the cleaned form
 

@@ -3,28 +3,24 @@
 use Prim.Native.Nat.{ℕ}
 use mathlib.Core.Bool.{Bool, _&&_}
 use mathlib.Core.List.{List, _∷_, _++_}
-use lib.ListN.{getD, take, drop, replicate}
+use lib.ListN.{getD, replicate}
 use lib.Dec.{leb, eqb}
 use Rattle.formats.specs.Checks.{if_then_else_}
-use Rattle.formats.specs.Digits.{digits, number}
+use Rattle.formats.specs.Bytes.{field, bytes}
 use Rattle.lines.specs.declared.Line.{Line}
 use Rattle.lines.specs.declared.Line.the-variants.{State, For, Next}
 
--- the end mark with outputs 0, which eight bytes that are no line count as
+-- the end mark with outputs 0
 abbrev pub endMark : Line
 endMark = State 0 0
+
+-- "Eight bytes that are none of these count as a State with outputs 0 and time 0 wherever they are read (*house*)."
+abbrev pub noLine : Line
+noLine = State 0 0
 
 -- a loop counter is 1 to 4
 abbrev pub isCounter : ℕ → Bool
 isCounter c = leb 1 c && leb c 4
-
--- n elements, the first of them number `from`
-abbrev pub part : ℕ → ℕ → List ℕ → List ℕ
-part from n bs = take n (drop from bs)
-
--- n bytes from place `from` on, as a number, high byte first
-abbrev pub field : ℕ → ℕ → List ℕ → ℕ
-field from n bs = number 256 (part from n bs)
 
 -- "State: 53 00 X4 X3 X2 X1 and the time, high byte first."
 abbrev pub isState : List ℕ → Bool
@@ -38,16 +34,15 @@ isFor bs = eqb (getD bs 0 0) 0x46 && isCounter (getD bs 1 0) && leb (field 2 2 b
 abbrev pub isNext : List ℕ → Bool
 isNext bs = eqb (getD bs 0 0) 0x4E && isCounter (getD bs 1 0) && eqb (field 2 6 bs) 0
 
--- The line that the first eight bytes say. "Eight bytes that are none of these count as a State with outputs 0 and time 0
--- wherever they are read (*house*)."
+-- The line that the first eight bytes say.
 unfoldable pub readLine : List ℕ → Line
 readLine bs =
     if isState bs then State (field 2 4 bs) (field 6 2 bs)
     else if isFor bs then For (getD bs 1 0) (field 2 2 bs)
     else if isNext bs then Next (getD bs 1 0)
-    else endMark
+    else noLine
 
 unfoldable pub bytesOf : Line → List ℕ
-bytesOf (State outputs time) = 0x53 ∷ 0 ∷ (digits 256 4 outputs ++ digits 256 2 time)
-bytesOf (For counter count) = 0x46 ∷ counter ∷ (digits 256 2 count ++ replicate 4 0)
+bytesOf (State outputs time) = 0x53 ∷ 0 ∷ (bytes 4 outputs ++ bytes 2 time)
+bytesOf (For counter count) = 0x46 ∷ counter ∷ (bytes 2 count ++ replicate 4 0)
 bytesOf (Next counter) = 0x4E ∷ counter ∷ replicate 6 0

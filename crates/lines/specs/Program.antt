@@ -2,8 +2,9 @@
 use Prim.Native.Nat.{ℕ, zero, suc, _+_, _*_, _-_}
 use mathlib.Core.Bool.{Bool, true, false}
 use mathlib.Core.List.{List, [], _++_}
-use lib.ListN.{take, drop}
+use lib.ListN.{drop}
 use lib.Dec.{eqb}
+use Rattle.formats.specs.Bytes.{placed}
 use Rattle.lines.specs.declared.Line.{Line}
 use Rattle.lines.specs.declared.Line.the-variants.{State, For, Next}
 use Rattle.lines.specs.Line.{readLine, bytesOf}
@@ -13,8 +14,8 @@ unfoldable pub lineAt : List ℕ → ℕ → Line
 lineAt p k = readLine (drop (8 * k) p)
 
 -- line k is written; every other byte stays
-unfoldable pub putLine : ℕ → Line → List ℕ → List ℕ
-putLine k l p = take (8 * k) p ++ (bytesOf l ++ drop (8 * k + 8) p)
+abbrev pub putLine : ℕ → Line → List ℕ → List ℕ
+putLine k l p = placed 8 k (bytesOf l) p
 
 -- n lines in the cleaned form: each as the line that it is read as
 unfoldable pub cleanedLines : ℕ → List ℕ → List ℕ

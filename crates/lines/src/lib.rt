@@ -7,7 +7,7 @@ ghost use lib.ListN.{length};
 ghost use lib.Dec.{eqb, leb};
 ghost use Rattle.formats.specs.Checks.{if_then_else_};
 ghost use Rattle.lines.specs.declared.Line.the-variants.{State, For, Next};
-ghost use Rattle.lines.specs.Line.{endMark, isCounter, readLine, bytesOf};
+ghost use Rattle.lines.specs.Line.{endMark, noLine, isCounter, readLine, bytesOf};
 ghost use Rattle.lines.specs.Program.{lineAt, putLine, cleaned, isNextOf, nextAfter};
 
 pub enum Line {
@@ -18,18 +18,14 @@ pub enum Line {
 
 // ---- eight bytes read as a line
 
-// Two bytes as a number, high byte first.
-fn two(a: u8, b: u8) -> u16
-    ensures number { λ r. ⌜ r ≡ a * 256 + b ⌝ }
+// What eight bytes that are no line count as, wherever they are read.
+fn no_line() -> Line
+    ensures line { λ r. ⌜ r ≡ noLine ⌝ }
 {
-    (a as u16) * 256 + (b as u16)
-}
-
-// Four bytes as a number, high byte first.
-fn four(a: u8, b: u8, c: u8, d: u8) -> u32
-    ensures number { λ r. ⌜ r ≡ ((a * 256 + b) * 256 + c) * 256 + d ⌝ }
-{
-    (((a as u32) * 256 + (b as u32)) * 256 + (c as u32)) * 256 + (d as u32)
+    Line::State {
+        outputs: 0,
+        time: 0,
+    }
 }
 
 // A loop counter is 1 to 4.
@@ -44,74 +40,50 @@ fn is_counter(c: u8) -> bool
 
 // The line of eight bytes that begin with 53, by the byte after it and the numbers in the other six.
 fn state_line(second: u8, outputs: u32, time: u16) -> Line
-    ensures line { λ r. ⌜ r ≡ (if eqb second 0 && leb time 9999 then State outputs time else endMark) ⌝ }
+    ensures line { λ r. ⌜ r ≡ (if eqb second 0 && leb time 9999 then State outputs time else noLine) ⌝ }
 {
     if second != 0 {
-        return Line::State {
-            outputs: 0,
-            time: 0,
-        };
+        return no_line();
     }
     if 9999 < time {
-        return Line::State {
-            outputs: 0,
-            time: 0,
-        };
+        return no_line();
     }
     Line::State { outputs, time }
 }
 
 // The line of eight bytes that begin with 46, by the counter, the count and the number in the last four bytes.
 fn for_line(counter: u8, count: u16, rest: u32) -> Line
-    ensures line { λ r. ⌜ r ≡ (if isCounter counter && leb count 9999 && eqb rest 0 then For counter count else endMark) ⌝ }
+    ensures line { λ r. ⌜ r ≡ (if isCounter counter && leb count 9999 && eqb rest 0 then For counter count else noLine) ⌝ }
 {
     if !is_counter(counter) {
-        return Line::State {
-            outputs: 0,
-            time: 0,
-        };
+        return no_line();
     }
     if 9999 < count {
-        return Line::State {
-            outputs: 0,
-            time: 0,
-        };
+        return no_line();
     }
     if rest != 0 {
-        return Line::State {
-            outputs: 0,
-            time: 0,
-        };
+        return no_line();
     }
     Line::For { counter, count }
 }
 
 // The line of eight bytes that begin with 4E, by the counter and the numbers in the two bytes and the four after it.
 fn next_line(counter: u8, high: u16, low: u32) -> Line
-    ensures line { λ r. ⌜ r ≡ (if isCounter counter && eqb (high * 4294967296 + low) 0 then Next counter else endMark) ⌝ }
+    ensures line { λ r. ⌜ r ≡ (if isCounter counter && eqb (high * 4294967296 + low) 0 then Next counter else noLine) ⌝ }
 {
     if !is_counter(counter) {
-        return Line::State {
-            outputs: 0,
-            time: 0,
-        };
+        return no_line();
     }
     if high != 0 {
-        return Line::State {
-            outputs: 0,
-            time: 0,
-        };
+        return no_line();
     }
     if low != 0 {
-        return Line::State {
-            outputs: 0,
-            time: 0,
-        };
+        return no_line();
     }
     Line::Next { counter }
 }
 
-// The line that the first eight bytes say; the end mark with outputs 0 where they say none.
+// The line that the first eight bytes say; what bytes that are no line count as where they say none.
 pub fn read_line(b: &[u8]) -> Line
     requires { ⌜ 8 ≤ length (now b) ⌝ }
     ensures line { λ r. ⌜ r ≡ readLine (now (b .entry)) ⌝ }
@@ -125,20 +97,21 @@ pub fn read_line(b: &[u8]) -> Line
     let b6 = b[6];
     let b7 = b[7];
     if first == 0x53 {
-        return state_line(second, four(b2, b3, b4, b5), two(b6, b7));
+        return state_line(
+            second,
+            formats::number_of_four(b2, b3, b4, b5),
+            formats::number_of_two(b6, b7),
+        );
     }
-    let high = two(b2, b3);
-    let low = four(b4, b5, b6, b7);
+    let high = formats::number_of_two(b2, b3);
+    let low = formats::number_of_four(b4, b5, b6, b7);
     if first == 0x46 {
         return for_line(second, high, low);
     }
     if first == 0x4E {
         return next_line(second, high, low);
     }
-    Line::State {
-        outputs: 0,
-        time: 0,
-    }
+    no_line()
 }
 
 // Line k of a program.
@@ -151,31 +124,30 @@ pub fn line_at(p: &[u8], k: usize) -> Line
 
 // ---- a line written as eight bytes
 
+// The end mark with outputs 0.
+pub fn end_mark() -> Line
+    ensures line { λ r. ⌜ r ≡ endMark ⌝ }
+{
+    Line::State {
+        outputs: 0,
+        time: 0,
+    }
+}
+
 // The eight bytes of a line.
 pub fn bytes_of(l: Line) -> [u8; 8]
     ensures bytes { λ r. ⌜ r ≡ bytesOf l ⌝ }
 {
     match l {
-        Line::State { outputs, time } => [
-            0x53,
-            0,
-            (outputs / 256 / 256 / 256 % 256) as u8,
-            (outputs / 256 / 256 % 256) as u8,
-            (outputs / 256 % 256) as u8,
-            (outputs % 256) as u8,
-            (time / 256 % 256) as u8,
-            (time % 256) as u8,
-        ],
-        Line::For { counter, count } => [
-            0x46,
-            counter,
-            (count / 256 % 256) as u8,
-            (count % 256) as u8,
-            0,
-            0,
-            0,
-            0,
-        ],
+        Line::State { outputs, time } => {
+            let o = formats::four_bytes(outputs);
+            let t = formats::two_bytes(time);
+            [0x53, 0, o[0], o[1], o[2], o[3], t[0], t[1]]
+        }
+        Line::For { counter, count } => {
+            let n = formats::two_bytes(count);
+            [0x46, counter, n[0], n[1], 0, 0, 0, 0]
+        }
         Line::Next { counter } => [0x4E, counter, 0, 0, 0, 0, 0, 0],
     }
 }

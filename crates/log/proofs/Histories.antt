@@ -10,12 +10,13 @@ use lib.Dec.{ltb}
 use native.Mathlib.Omega.{arith}
 use borrow.Author.Tests.{ltb-true, ltb-false, eq-eqb, ne-eqb}
 use Rattle.formats.proofs.Checks.{if-case}
+use Rattle.formats.proofs.Places.{placed-before, placed-at, length-placed}
 use Rattle.log.specs.declared.Change.{Change}
 use Rattle.log.specs.declared.Log.{Log}
 use Rattle.log.specs.Record.{recordSize, leastArea, changeRecord, gapRecord}
 use Rattle.log.specs.Log.{R, mostLost, Logged, oneMoreLost, addChange, records, emptied, recordsOf, lastTick, history}
 use Rattle.log.specs.Invariant.{LogInvariant}
-use Rattle.log.proofs.Places.{length-change, length-gap, place-before, place-at, length-place}
+use Rattle.log.proofs.Records.{length-change, length-gap}
 
 -- ---- one more change at the end of a list
 
@@ -78,13 +79,13 @@ module _ (cs : List Change) (l : Log) (area : List ℕ) (c : Change) (h : Holds 
       rw (e, addChange)
       (record {
         enough = h .enough;
-        whole = length-place (l .kept) (changeRecord c) area (length-change c) fits ∙ h .whole;
+        whole = length-placed recordSize (l .kept) (changeRecord c) area (length-change c) fits ∙ h .whole;
         keptIs = omega (arith, more, h .keptIs);
         lostIs = omega (arith, more, h .lostIs);
         first =
             rw (
               next,
-              place-at (l .kept) (changeRecord c) area (length-change c) fits,
+              placed-at recordSize (l .kept) (changeRecord c) area (length-change c) fits,
               h .first,
               take-all (R l - 1) cs (omega arith),
               take-all (R l - 1) cs′ (omega (arith, more)),
@@ -102,11 +103,11 @@ module _ (cs : List Change) (l : Log) (area : List ℕ) (c : Change) (h : Holds 
       rw (e, addChange)
       (record {
         enough = h .enough;
-        whole = length-place (l .kept) _ area (length-gap _ _) fits ∙ h .whole;
+        whole = length-placed recordSize (l .kept) _ area (length-gap _ _) fits ∙ h .whole;
         keptIs = omega (arith, more, h .keptIs);
         lostIs = omega (arith, more, h .lostIs, one-more-is (l .lost) (omega (arith, h .lostIs)));
-        first = rw (place-before (l .kept) _ area (length-gap _ _) fits, take-append-le, h .first);
-        gap = λ _. rw (place-at (l .kept) _ area (length-gap _ _) fits, h .first, take-append-le, last-snoc);
+        first = rw (placed-before recordSize (l .kept) _ area (length-gap _ _) fits, take-append-le, h .first);
+        gap = λ _. rw (placed-at recordSize (l .kept) _ area (length-gap _ _) fits, h .first, take-append-le, last-snoc);
       })
 
   -- One change more: the log then holds the longer list.

@@ -1,2 +1,2 @@
-pub mod Saying
+pub mod MachineValues
 pub mod Agreement

@@ -1,15 +1,15 @@
 // The record that the box's main loop keeps, and the five calls that alter it where it stands: a library for C.
-// Each calls its by-value twin and stores the state that this returned. Definition: `call` of controller/specs/Calls.antt, as for the
-// by-value calls; specs/Kept.antt for what stays in the record and what is said beside it. The header is host/nizhalepu.h.
+// Each calls the method of the box and stores the box that this returned. Definition: `call` of controller/specs/Calls.antt, as for the
+// by-value calls; specs/InRecord.antt for what stays in the record and what is said beside it. The header is host/nizhalepu.h.
 ghost use mathlib.Core.Path.{_≡_};
 ghost use mathlib.Core.List.{[]};
 ghost use Rattle.controller.specs.Controller.{fresh};
 ghost use Rattle.controller.specs.Refusals.{powerOn, byte, tick, press, emptying};
 ghost use Rattle.controller.specs.Calls.{call};
 ghost use Rattle.controller.specs.Invariant.{Invariant};
-ghost use Rattle.deeds.specs.Values.{areas};
-ghost use Rattle.nizhalepu.specs.Kept.{kept};
-use controller::Controller;
+ghost use Rattle.deeds.specs.OnAreas.{areas};
+ghost use Rattle.nizhalepu.specs.InRecord.{inRecord};
+use calls::SwitchBox;
 
 // What a call says; the state stays in the record.
 #[repr(C)]
@@ -25,16 +25,16 @@ pub struct Said {
 // Power-on fills the record, whatever it held.
 #[no_mangle]
 pub extern "C" fn nizhalepu_power_on(
-    state: &mut Controller,
+    state: &mut SwitchBox,
     program: &mut [u8],
     saved: &[u8],
     log: &[u8],
 ) -> Said
-    ensures call { λ r. ⌜ kept r (now (state .exit)) (areas (now (program .exit)) (now (saved .entry)) (now (log .entry)) [])
+    ensures call { λ r. ⌜ inRecord r (now (state .exit)) (areas (now (program .exit)) (now (saved .entry)) (now (log .entry)) [])
         ≡ call powerOn (fresh 0) (areas (now (program .entry)) (now (saved .entry)) (now (log .entry)) []) ⌝ }
 {
-    let answer = calls::power_on(program, saved, log);
-    *state = answer.state;
+    let answer = SwitchBox::power_on(program, saved, log);
+    *state = answer.next;
     Said {
         refusal: answer.refusal,
         lines: answer.lines,
@@ -45,19 +45,19 @@ pub extern "C" fn nizhalepu_power_on(
 // One wire byte.
 #[no_mangle]
 pub extern "C" fn nizhalepu_byte(
-    state: &mut Controller,
+    state: &mut SwitchBox,
     x: u8,
     program: &mut [u8],
     saved: &mut [u8],
     log: &mut [u8],
     reply: &mut [u8],
 ) -> Said
-    requires { ⌜ Invariant (now state) ⌝ }
-    ensures call { λ r. ⌜ kept r (now (state .exit)) (areas (now (program .exit)) (now (saved .exit)) (now (log .exit)) (now (reply .exit)))
-        ≡ call (byte x) (now (state .entry)) (areas (now (program .entry)) (now (saved .entry)) (now (log .entry)) (now (reply .entry))) ⌝ }
+    requires { ⌜ Invariant (now state .controller) ⌝ }
+    ensures call { λ r. ⌜ inRecord r (now (state .exit)) (areas (now (program .exit)) (now (saved .exit)) (now (log .exit)) (now (reply .exit)))
+        ≡ call (byte x) (now (state .entry) .controller) (areas (now (program .entry)) (now (saved .entry)) (now (log .entry)) (now (reply .entry))) ⌝ }
 {
-    let answer = calls::byte(*state, x, program, saved, log, reply);
-    *state = answer.state;
+    let answer = SwitchBox::byte(*state, x, program, saved, log, reply);
+    *state = answer.next;
     Said {
         refusal: answer.refusal,
         lines: answer.lines,
@@ -67,13 +67,13 @@ pub extern "C" fn nizhalepu_byte(
 
 // One tick.
 #[no_mangle]
-pub extern "C" fn nizhalepu_tick(state: &mut Controller, program: &[u8], log: &mut [u8]) -> Said
-    requires { ⌜ Invariant (now state) ⌝ }
-    ensures call { λ r. ⌜ kept r (now (state .exit)) (areas (now (program .entry)) [] (now (log .exit)) [])
-        ≡ call tick (now (state .entry)) (areas (now (program .entry)) [] (now (log .entry)) []) ⌝ }
+pub extern "C" fn nizhalepu_tick(state: &mut SwitchBox, program: &[u8], log: &mut [u8]) -> Said
+    requires { ⌜ Invariant (now state .controller) ⌝ }
+    ensures call { λ r. ⌜ inRecord r (now (state .exit)) (areas (now (program .entry)) [] (now (log .exit)) [])
+        ≡ call tick (now (state .entry) .controller) (areas (now (program .entry)) [] (now (log .entry)) []) ⌝ }
 {
-    let answer = calls::tick(*state, program, log);
-    *state = answer.state;
+    let answer = SwitchBox::tick(*state, program, log);
+    *state = answer.next;
     Said {
         refusal: answer.refusal,
         lines: answer.lines,
@@ -84,17 +84,17 @@ pub extern "C" fn nizhalepu_tick(state: &mut Controller, program: &[u8], log: &m
 // One press of a button.
 #[no_mangle]
 pub extern "C" fn nizhalepu_press(
-    state: &mut Controller,
+    state: &mut SwitchBox,
     n: u8,
     program: &[u8],
     log: &mut [u8],
 ) -> Said
-    requires { ⌜ Invariant (now state) ⌝ }
-    ensures call { λ r. ⌜ kept r (now (state .exit)) (areas (now (program .entry)) [] (now (log .exit)) [])
-        ≡ call (press n) (now (state .entry)) (areas (now (program .entry)) [] (now (log .entry)) []) ⌝ }
+    requires { ⌜ Invariant (now state .controller) ⌝ }
+    ensures call { λ r. ⌜ inRecord r (now (state .exit)) (areas (now (program .entry)) [] (now (log .exit)) [])
+        ≡ call (press n) (now (state .entry) .controller) (areas (now (program .entry)) [] (now (log .entry)) []) ⌝ }
 {
-    let answer = calls::press(*state, n, program, log);
-    *state = answer.state;
+    let answer = SwitchBox::press(*state, n, program, log);
+    *state = answer.next;
     Said {
         refusal: answer.refusal,
         lines: answer.lines,
@@ -104,17 +104,13 @@ pub extern "C" fn nizhalepu_press(
 
 // Emptying the log.
 #[no_mangle]
-pub extern "C" fn nizhalepu_empty(
-    state: &mut Controller,
-    log: &[u8],
-    destination: &mut [u8],
-) -> Said
-    requires { ⌜ Invariant (now state) ⌝ }
-    ensures call { λ r. ⌜ kept r (now (state .exit)) (areas [] [] (now (log .entry)) (now (destination .exit)))
-        ≡ call emptying (now (state .entry)) (areas [] [] (now (log .entry)) (now (destination .entry))) ⌝ }
+pub extern "C" fn nizhalepu_empty(state: &mut SwitchBox, log: &[u8], destination: &mut [u8]) -> Said
+    requires { ⌜ Invariant (now state .controller) ⌝ }
+    ensures call { λ r. ⌜ inRecord r (now (state .exit)) (areas [] [] (now (log .entry)) (now (destination .exit)))
+        ≡ call emptying (now (state .entry) .controller) (areas [] [] (now (log .entry)) (now (destination .entry))) ⌝ }
 {
-    let answer = calls::empty(*state, log, destination);
-    *state = answer.state;
+    let answer = SwitchBox::empty(*state, log, destination);
+    *state = answer.next;
     Said {
         refusal: answer.refusal,
         lines: answer.lines,

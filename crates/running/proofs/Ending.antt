@@ -17,7 +17,8 @@ use Rattle.running.specs.declared.How.{How}
 use Rattle.running.specs.declared.How.the-variants.{Holds, Ends, GoesOn}
 use Rattle.running.specs.declared.Step.{Step}
 use Rattle.running.specs.declared.Ran.{Ran}
-use Rattle.running.specs.Running.{allFree, counter, isBusy, isFree, stopped, holds, ends, onward, runLine, isForOrNext, counted, stops, isHeld, follow, step, runDue, most, start, tick}
+use Rattle.running.specs.Running.{allFree, counter, isBusy, isFree, stopped, holds, ends, onward, runLine, isForOrNext}
+use Rattle.running.specs.Running.{counted, stops, isHeld, follow, step, runDue, most, start, tick}
 use Rattle.running.proofs.Turns.{counted-one}
 
 -- ---- at most 400 lines

@@ -2,11 +2,10 @@
 -- Assumes nothing.
 use mathlib.Core.Path.{_≡_, refl}
 use Prim.Native.Nat.{ℕ, suc}
-use mathlib.Core.Bool.{Bool, true, false, _&&_}
+use mathlib.Core.Bool.{Bool, true, _&&_}
 use mathlib.Core.List.{List, [], _∷_, _++_}
 use lib.ListN.{replicate}
-use lib.Dec.{eqb}
-use Rattle.formats.specs.Checks.{if_then_else_}
+use Rattle.formats.specs.Checks.{if_then_else_, same}
 use Rattle.formats.specs.Digits.{digits, numberAfter}
 use Rattle.lines.specs.declared.Line.{Line}
 use Rattle.lines.specs.declared.Line.the-variants.{State, For, Next}
@@ -24,12 +23,6 @@ record Example : Type 0 where
   from : ℕ
   -- after the start, and after each tick
   rows : List (List ℕ)
-
-abbrev same : List ℕ → List ℕ → Bool
-same [] [] = true
-same [] (y ∷ ys) = false
-same (x ∷ xs) [] = false
-same (x ∷ xs) (y ∷ ys) = eqb x y && same xs ys
 
 agrees : List ℕ → Ran → List (List ℕ) → Bool
 agrees p x [] = true

@@ -21,7 +21,8 @@ use Rattle.running.specs.declared.How.{How}
 use Rattle.running.specs.declared.How.the-variants.{Holds, Ends, GoesOn}
 use Rattle.running.specs.declared.Step.{Step}
 use Rattle.running.specs.declared.Ran.{Ran}
-use Rattle.running.specs.Running.{free, allFree, counter, isBusy, isFree, withOutputs, waiting, withCounter, stopped, ends, goesTo, onward, atLeastOne, runLine, isForOrNext, isHeld, follow, step, runDue, most, start, tick}
+use Rattle.running.specs.Running.{begun, free, allFree, counter, isBusy, isFree, withOutputs, waiting, withCounter, stopped, ends, goesTo}
+use Rattle.running.specs.Running.{onward, atLeastOne, runLine, isForOrNext, isHeld, follow, step, runDue, most, start, tick}
 use Rattle.running.specs.Invariant.{RunInvariant}
 
 -- ---- counters
@@ -149,19 +150,16 @@ due-kept p zero n r g =
 due-kept p (suc left) n r g =
     follow-kept (step p r .how) _ (step p r .run) _ (step-going p r g .going) (λ s k. due-kept p left _ s k)
 
--- the run that a start begins with
-abbrev pub started : ℕ → ℕ → Run
-started k o = record { on = true; line = k; outputs = o; wait = 0; counters = allFree }
-
-pub started-going : (k o : ℕ) → k < 200 → Going (started k o)
-started-going k o lt =
+-- what holds of the run that a start begins with
+pub begun-going : (k o : ℕ) → k < 200 → Going (begun k o)
+begun-going k o lt =
     record { on = refl; inProgram = lt; forLine = each-free LineOk (omega arith); count = each-free CountOk (omega arith); time = omega arith }
 
 -- A start at a line of the program gives the invariant.
 pub start-kept : (p : List ℕ) (k o : ℕ) → k < 200 → RunInvariant (start p k o .run)
 unfolding start
 start-kept p k o lt =
-    due-kept p most 0 (started k o) (started-going k o lt)
+    due-kept p most 0 (begun k o) (begun-going k o lt)
 
 -- A tick keeps it.
 pub tick-kept : (p : List ℕ) (r : Run) → RunInvariant r → RunInvariant (tick p r .run)

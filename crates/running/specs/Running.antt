@@ -49,6 +49,14 @@ abbrev pub withCounter : ℕ → Counter → Run → Run
 withCounter c v r =
     record { on = r .on; line = r .line; outputs = r .outputs; wait = r .wait; counters = set (r .counters) (c - 1) v }
 
+-- at power-on; 01: "outputs 0, stopped, line 000"
+abbrev pub freshRun : Run
+freshRun = record { on = false; line = 0; outputs = 0; wait = 0; counters = allFree }
+
+-- the run that a start begins with; 01: "A start frees all loops."
+abbrev pub begun : ℕ → ℕ → Run
+begun k outputs = record { on = true; line = k; outputs = outputs; wait = 0; counters = allFree }
+
 -- 01: "Stop frees the loops and keeps outputs and line." "An event stop keeps the outputs, frees the loops"
 unfoldable pub stopped : Run → Run
 stopped r = record { on = false; line = r .line; outputs = r .outputs; wait = 0; counters = allFree }
@@ -136,9 +144,9 @@ runDue p (suc left) n r =
 abbrev pub most : ℕ
 most = 400
 
--- A start at line k with the outputs as they stand. 01: "A start frees all loops."
+-- a start at line k with the outputs as they stand
 unfoldable pub start : List ℕ → ℕ → ℕ → Ran
-start p k outputs = runDue p most 0 (record { on = true; line = k; outputs = outputs; wait = 0; counters = allFree })
+start p k outputs = runDue p most 0 (begun k outputs)
 
 -- the next line falls due on a later tick
 abbrev pub isHeld : Run → Bool

@@ -3,12 +3,13 @@
 ghost use mathlib.Core.Path.{_≡_};
 ghost use mathlib.Core.Bool.{true};
 ghost use mathlib.Core.List.{[]};
-ghost use Prim.Native.Nat.{_≤_, _<_};
+ghost use Prim.Native.Nat.{_<_};
 ghost use lib.ListN.{length};
 ghost use Rattle.lines.specs.declared.Line.the-variants.{State, For, Next};
 ghost use Rattle.lines.specs.Line.{isCounter};
 ghost use Rattle.lines.specs.Program.{lineAt};
-ghost use Rattle.running.specs.Running.{stopped, onward, runLine, isForOrNext, counted, step, runDue, start, tick};
+ghost use Rattle.running.specs.Running.{free, allFree, freshRun, begun, withOutputs, stopped, onward, runLine};
+ghost use Rattle.running.specs.Running.{isForOrNext, counted, step, runDue, start, tick};
 ghost use Rattle.running.specs.Invariant.{RunInvariant};
 use lines::Line;
 
@@ -83,17 +84,69 @@ fn counted(line: Line) -> u16
     0
 }
 
+// A counter that is free.
+fn free() -> Counter
+    ensures free { λ r. ⌜ r ≡ free ⌝ }
+{
+    Counter { count: 0, line: 0 }
+}
+
+// The four counters, each free.
+fn all_free() -> [Counter; 4]
+    ensures free { λ r. ⌜ r ≡ allFree ⌝ }
+{
+    let one = free();
+    [one; 4]
+}
+
 impl Run {
+    // The run at power-on: stopped on line 000, with outputs 0.
+    pub fn fresh() -> Run
+        ensures run { λ r. ⌜ r ≡ freshRun ⌝ }
+    {
+        let counters = all_free();
+        Run {
+            on: false,
+            line: 0,
+            outputs: 0,
+            wait: 0,
+            counters,
+        }
+    }
+
+    // The run that a start at line k begins with.
+    fn begun(k: u8, outputs: u32) -> Run
+        ensures run { λ r. ⌜ r ≡ begun k outputs ⌝ }
+    {
+        let counters = all_free();
+        Run {
+            on: true,
+            line: k,
+            outputs,
+            wait: 0,
+            counters,
+        }
+    }
+
+    // All 32 outputs are set.
+    pub fn with_outputs(mut self, word: u32) -> Run
+        ensures run { λ r. ⌜ r ≡ withOutputs word self ⌝ }
+    {
+        self.outputs = word;
+        self
+    }
+
     // The loops are freed, and outputs and line stay.
     pub fn stopped(self) -> Run
         ensures run { λ r. ⌜ r ≡ stopped self ⌝ }
     {
+        let counters = all_free();
         Run {
             on: false,
             line: self.line,
             outputs: self.outputs,
             wait: 0,
-            counters: [Counter { count: 0, line: 0 }; 4],
+            counters,
         }
     }
 
@@ -190,7 +243,8 @@ impl Run {
                 how: How::GoesOn,
             };
         }
-        self.counters[c] = Counter { count: 0, line: 0 };
+        let none = free();
+        self.counters[c] = none;
         self.onward()
     }
 
@@ -327,12 +381,6 @@ pub fn start(p: &[u8], k: u8, outputs: u32) -> Ran
     requires { ⌜ (length (now p) ≡ 1600) × (k < 200) ⌝ }
     ensures ran { λ r. ⌜ r ≡ start (now (p .entry)) k outputs ⌝ }
 {
-    let run = Run {
-        on: true,
-        line: k,
-        outputs,
-        wait: 0,
-        counters: [Counter { count: 0, line: 0 }; 4],
-    };
+    let run = Run::begun(k, outputs);
     run.run_due(p)
 }

@@ -1,4 +1,4 @@
 pub mod Codes
 pub mod Table
 pub mod Quiet
-pub mod Answers
+pub mod NamedBack

@@ -7,25 +7,26 @@ use mathlib.Core.Bool.{Bool, true, false}
 use mathlib.Core.List.{List, [], _∷_}
 use lib.Dec.{eqb, lit<}
 use lib.ListN.{getD}
+use borrow.Author.Tests.{eqb-true}
 use Rattle.formats.specs.Checks.{if_then_else_, Res, refused, passed}
 use Rattle.formats.proofs.Checks.{below}
 use Rattle.special.specs.declared.Mode.{Mode}
 use Rattle.special.specs.declared.Mode.the-variants.{Stop, Pause, Auto}
 use Rattle.special.specs.declared.Special.{Special}
-use Rattle.special.specs.Special.{allowed, codeOf, specialOf}
+use Rattle.special.specs.Special.{forbidden, codeOf, specialOf}
 use Rattle.special.proofs.Codes.{code-low, code-high, code-back}
 
 -- the table of the code, row by row
 abbrev table : List ℕ
 table =
-    1 ∷ 1 ∷ 1
-    ∷ 0 ∷ 1 ∷ 1
-    ∷ 1 ∷ 0 ∷ 0
-    ∷ 0 ∷ 1 ∷ 0
-    ∷ 1 ∷ 0 ∷ 0
-    ∷ 1 ∷ 0 ∷ 0
-    ∷ 1 ∷ 0 ∷ 0
-    ∷ 1 ∷ 0 ∷ 0 ∷ []
+    0 ∷ 0 ∷ 0
+    ∷ 5 ∷ 0 ∷ 0
+    ∷ 0 ∷ 5 ∷ 5
+    ∷ 5 ∷ 0 ∷ 5
+    ∷ 0 ∷ 5 ∷ 5
+    ∷ 0 ∷ 5 ∷ 5
+    ∷ 0 ∷ 5 ∷ 5
+    ∷ 0 ∷ 5 ∷ 5 ∷ []
 
 -- its columns
 abbrev pub columnOf : Mode → ℕ
@@ -48,29 +49,19 @@ column-back Auto = refl
 
 -- ---- the test
 
-abbrev same : Bool → Bool → Bool
-same true b = b
-same false true = false
-same false false = true
-
-same-eq : (a b : Bool) → same a b ≡ true → a ≡ b
-same-eq true b e = sym e
-same-eq false true e = e
-same-eq false false e = refl
-
-abbrev agrees : Bool → Res Special → Mode → Bool
+abbrev agrees : ℕ → Res Special → Mode → Bool
 agrees entry (refused e) mode = false
-agrees entry (passed s) mode = same entry (allowed s mode)
+agrees entry (passed s) mode = eqb entry (forbidden s mode)
 
 -- entry k is that of the command of code 1 + k / 3 in column k % 3
 abbrev right : ℕ → Bool
-right k = agrees (eqb (getD table k 0) 1) (specialOf (k / 3 + 1)) (modeAt (k % 3))
+right k = agrees (getD table k 0) (specialOf (k / 3 + 1)) (modeAt (k % 3))
 
 every-entry : (k : ℕ) → k < 24 → right k ≡ true
-unfolding allowed specialOf
+unfolding forbidden specialOf
 every-entry = below right 24 refl
 
--- The entry of a command in a state says whether it is allowed.
+-- The entry of a command in a state is the error that it gets there, 0 where it is allowed.
 module _ (s : Special) (mode : Mode) where
   abbrev place : ℕ
   place = 3 * (codeOf s - 1) + columnOf mode
@@ -78,10 +69,10 @@ module _ (s : Special) (mode : Mode) where
   pub entry-within : place < 24
   entry-within = omega (arith, code-low s, code-high s, column-below mode)
 
-  pub entry-tells : eqb (getD table place 0) 1 ≡ allowed s mode
+  pub entry-tells : getD table place 0 ≡ forbidden s mode
   entry-tells =
       let row : place / 3 + 1 ≡ codeOf s = omega (arith, code-low s, column-below mode) in
       let column : place % 3 ≡ columnOf mode = omega (arith, column-below mode) in
-      same-eq (eqb (getD table place 0) 1) (allowed s mode)
-      (sym (ap₂ (agrees (eqb (getD table place 0) 1)) (ap specialOf row ∙ code-back s) (ap modeAt column ∙ column-back mode))
+      eqb-true (getD table place 0) (forbidden s mode)
+      (sym (ap₂ (agrees (getD table place 0)) (ap specialOf row ∙ code-back s) (ap modeAt column ∙ column-back mode))
       ∙ every-entry place entry-within)

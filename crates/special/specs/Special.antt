@@ -1,5 +1,5 @@
 -- The special commands.
--- 01, 'Special commands', its table; 1 stands for allowed.
+-- 01, 'Special commands', and its table.
 use Prim.Native.Nat.{ℕ}
 use mathlib.Core.Bool.{Bool, true, false}
 use lib.Dec.{eqb, leb}
@@ -15,21 +15,25 @@ modeOf false paused = M.the-variants.Stop
 modeOf true true = M.the-variants.Pause
 modeOf true false = M.the-variants.Auto
 
-abbrev pub row : Bool → Bool → Bool → Mode → Bool
+abbrev pub row : ℕ → ℕ → ℕ → Mode → ℕ
 row stop pause auto M.the-variants.Stop = stop
 row stop pause auto M.the-variants.Pause = pause
 row stop pause auto M.the-variants.Auto = auto
 
---                          Stop  Pause Auto
-unfoldable pub allowed : Special → Mode → Bool
-allowed Stop = row true true true
-allowed Pause = row false true true
-allowed Start = row true false false
-allowed Continue = row false true false
-allowed StartAt = row true false false
-allowed Execute = row true false false
-allowed Load = row true false false
-allowed Save = row true false false
+-- The error that a command is refused with, 0 where it is allowed. Check 7: "code forbidden in the present state, E005". The paper's 1
+-- is 0 here, and its 0 is 5. A row is Stop, Pause, Auto.
+unfoldable pub forbidden : Special → Mode → ℕ
+forbidden Stop = row 0 0 0
+forbidden Pause = row 5 0 0
+forbidden Start = row 0 5 5
+forbidden Continue = row 5 0 5
+forbidden StartAt = row 0 5 5
+forbidden Execute = row 0 5 5
+forbidden Load = row 0 5 5
+forbidden Save = row 0 5 5
+
+abbrev pub allowed : Special → Mode → Bool
+allowed s mode = eqb (forbidden s mode) 0
 
 abbrev pub codeOf : Special → ℕ
 codeOf Stop = 1

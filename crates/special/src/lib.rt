@@ -1,7 +1,7 @@
 // The special commands: their codes, when each is allowed, and how far its parameter reaches.
 // The types, the table of when each is allowed, and a function for each rule.
 ghost use mathlib.Core.Path.{_≡_};
-ghost use Rattle.special.specs.Special.{modeOf, allowed, codeOf, specialOf, inReach};
+ghost use Rattle.special.specs.Special.{modeOf, forbidden, codeOf, specialOf, inReach};
 ghost use Rattle.special.specs.Named.{namedOf};
 
 // The three states of the table of special commands.
@@ -29,32 +29,32 @@ pub enum Named {
     Error(u8),
 }
 
-// The table of special commands: a row of three for each, for the states Stop, Pause and Auto; 1 for allowed.
-const ALLOWED: [u8; 24] = [
-    1, // 001 stop, Stop
-    1, // 001 stop, Pause
-    1, // 001 stop, Auto
-    0, // 002 pause, Stop
-    1, // 002 pause, Pause
-    1, // 002 pause, Auto
-    1, // 003 start, Stop
-    0, // 003 start, Pause
-    0, // 003 start, Auto
-    0, // 004 continue, Stop
-    1, // 004 continue, Pause
-    0, // 004 continue, Auto
-    1, // 005 start at, Stop
-    0, // 005 start at, Pause
-    0, // 005 start at, Auto
-    1, // 006 execute one line, Stop
-    0, // 006 execute one line, Pause
-    0, // 006 execute one line, Auto
-    1, // 007 load, Stop
-    0, // 007 load, Pause
-    0, // 007 load, Auto
-    1, // 008 save, Stop
-    0, // 008 save, Pause
-    0, // 008 save, Auto
+// The table of special commands: a row of three for each, for the states Stop, Pause and Auto; 0 for allowed, else the error.
+const FORBIDDEN: [u8; 24] = [
+    0, // 001 stop, Stop
+    0, // 001 stop, Pause
+    0, // 001 stop, Auto
+    5, // 002 pause, Stop
+    0, // 002 pause, Pause
+    0, // 002 pause, Auto
+    0, // 003 start, Stop
+    5, // 003 start, Pause
+    5, // 003 start, Auto
+    5, // 004 continue, Stop
+    0, // 004 continue, Pause
+    5, // 004 continue, Auto
+    0, // 005 start at, Stop
+    5, // 005 start at, Pause
+    5, // 005 start at, Auto
+    0, // 006 execute one line, Stop
+    5, // 006 execute one line, Pause
+    5, // 006 execute one line, Auto
+    0, // 007 load, Stop
+    5, // 007 load, Pause
+    5, // 007 load, Auto
+    0, // 008 save, Stop
+    5, // 008 save, Pause
+    5, // 008 save, Auto
 ];
 
 // The state of the table: a box that is paused is running too.
@@ -103,9 +103,9 @@ pub fn special_of(n: u8) -> Named
     }
 }
 
-// Whether a special command is allowed in a state: its entry in the table.
-pub fn is_allowed(s: Special, mode: Mode) -> bool
-    ensures table { λ r. ⌜ r ≡ allowed s mode ⌝ }
+// The error that a special command is refused with in a state, 0 where it is allowed: its entry in the table.
+pub fn forbidden(s: Special, mode: Mode) -> u8
+    ensures table { λ r. ⌜ r ≡ forbidden s mode ⌝ }
 {
     let row = code_of(s) as usize - 1;
     let column: usize = match mode {
@@ -114,7 +114,7 @@ pub fn is_allowed(s: Special, mode: Mode) -> bool
         Mode::Auto => 2,
     };
     let at = 3 * row + column;
-    ALLOWED[at] == 1
+    FORBIDDEN[at]
 }
 
 // Whether the parameter is within reach of a special command.

@@ -16,7 +16,8 @@ use Rattle.formats.proofs.Checks.{if-case, both-true, ok-bind, ok-guard}
 use Rattle.formats.proofs.Characters.{length-shown, shown-back, read-shows, read-fits}
 use Rattle.lines.specs.declared.Line.{Line}
 use Rattle.lines.specs.declared.Line.the-variants.{State, For, Next}
-use Rattle.lines.specs.Line.{isCounter, part}
+use Rattle.formats.specs.Bytes.{part}
+use Rattle.lines.specs.Line.{isCounter}
 use Rattle.texts.specs.Text.{lineText, lineLength, counterIn, stateIn, forIn, nextIn, lineIn}
 use Rattle.lines.proofs.Lines.{Fits}
 
@@ -158,7 +159,14 @@ unfolding lineIn lineText stateIn forIn nextIn text _>>=_ _>>_ _orElse_
 text-accepted (State o t) f =
     let len : length (shown 16 8 o ++ shown 10 4 t) ≡ 12 = simp (length-append, length-shown) in
     let z : numberIn 10 3 (48 ∷ 48 ∷ []) ≡ passed 0 = zeros-back in
-    rw (len, z, first-of-two 16 10 8 4 o t, shown-back 16 (omega arith) (omega arith) 3 8 o (omega (arith, f .0)), second-of-two 16 10 8 4 o t, decimal-back 4 t (omega (arith, f .1)))
+    rw (
+      len,
+      z,
+      first-of-two 16 10 8 4 o t,
+      shown-back 16 (omega arith) (omega arith) 3 8 o (omega (arith, f .0)),
+      second-of-two 16 10 8 4 o t,
+      decimal-back 4 t (omega (arith, f .1)),
+    )
 text-accepted (For c n) f =
     let len : length (shown 10 1 c ++ shown 10 4 n) ≡ 5 = simp (length-append, length-shown) in
     rw (len, first-of-two 10 10 1 4 c n, counter-back c (f .0), second-of-two 10 10 1 4 c n, decimal-back 4 n (omega (arith, f .1)))

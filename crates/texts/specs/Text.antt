@@ -9,7 +9,8 @@ use Rattle.formats.specs.Checks.{if_then_else_, Res, passed, _>>=_, _>>_, _orEl
 use Rattle.formats.specs.Digits.{shown, numberIn}
 use Rattle.lines.specs.declared.Line.{Line}
 use Rattle.lines.specs.declared.Line.the-variants.{State, For, Next}
-use Rattle.lines.specs.Line.{isCounter, part}
+use Rattle.formats.specs.Bytes.{part}
+use Rattle.lines.specs.Line.{isCounter}
 
 unfoldable pub lineText : Line → List ℕ
 lineText (State outputs time) = text "S00" ++ (shown 16 8 outputs ++ shown 10 4 time)

@@ -3,9 +3,9 @@
 ghost use mathlib.Core.Path.{_≡_};
 ghost use Prim.Native.Nat.{_≤_};
 ghost use lib.ListN.{length};
-ghost use Rattle.formats.specs.Values.{numberOf, textOf};
+ghost use Rattle.formats.specs.NumbersAndTexts.{numberOf, textOf};
 ghost use Rattle.texts.specs.Text.{lineText, counterIn, stateIn, forIn, nextIn, lineIn};
-ghost use Rattle.texts.specs.Values.{parsedOf};
+ghost use Rattle.texts.specs.ParsedLine.{parsedOf};
 use formats::Number;
 use formats::Text;
 use lines::Line;

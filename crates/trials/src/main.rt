@@ -4,10 +4,9 @@
 ghost use Prim.Native.Nat.{_<_};
 ghost use Rattle.controller.specs.Invariant.{Invariant};
 ghost use Rattle.trials.specs.Fits.{Fits, Buffers};
-use controller::Answer;
-use controller::Controller;
-use libc::STDIN_FILENO;
-use libc::STDOUT_FILENO;
+use calls::Returned;
+use calls::SwitchBox;
+use streams::Output;
 
 // How many bytes of each buffer are lent.
 struct Sizes {
@@ -17,9 +16,16 @@ struct Sizes {
     out: usize,
 }
 
-// The box and the sizes after a record, and whether there may be more.
+// The box and the output after a record.
+struct After {
+    held: SwitchBox,
+    output: Output,
+}
+
+// The box, the output and the sizes after a record, and whether there may be more.
 struct Next {
-    state: Controller,
+    held: SwitchBox,
+    output: Output,
     sizes: Sizes,
     on: bool,
 }
@@ -36,35 +42,35 @@ struct Record {
 
 // A call with the areas that it is lent.
 fn tried(
-    c: Controller,
+    b: SwitchBox,
     op: u8,
     x: u8,
     program: &mut [u8],
     saved: &mut [u8],
     log: &mut [u8],
     out: &mut [u8],
-) -> Answer
-    requires { ⌜ Invariant c ⌝ }
-    ensures kept { λ r. ⌜ Invariant (r .state) ⌝ }
+) -> Returned
+    requires { ⌜ Invariant (b .controller) ⌝ }
+    ensures kept { λ r. ⌜ Invariant (r .next .controller) ⌝ }
 {
     if op == b'o' {
-        return calls::power_on(program, saved, log);
+        return SwitchBox::power_on(program, saved, log);
     }
     if op == b'b' {
-        return calls::byte(c, x, program, saved, log, out);
+        return b.byte(x, program, saved, log, out);
     }
     if op == b't' {
-        return calls::tick(c, program, log);
+        return b.tick(program, log);
     }
     if op == b'n' {
-        return calls::press(c, x, program, log);
+        return b.press(x, program, log);
     }
-    calls::empty(c, log, out)
+    b.empty(log, out)
 }
 
 // The first bytes of each buffer are lent.
 fn lent(
-    c: Controller,
+    b: SwitchBox,
     s: Sizes,
     op: u8,
     x: u8,
@@ -72,16 +78,16 @@ fn lent(
     saved: &mut [u8],
     log: &mut [u8],
     out: &mut [u8],
-) -> Answer
-    requires { ⌜ (Invariant c) × (Fits s) × (Buffers (now program) (now saved) (now log) (now out)) ⌝ }
-    ensures kept { λ r. ⌜ Invariant (r .state) ⌝ }
+) -> Returned
+    requires { ⌜ (Invariant (b .controller)) × (Fits s) × (Buffers (now program) (now saved) (now log) (now out)) ⌝ }
+    ensures kept { λ r. ⌜ Invariant (r .next .controller) ⌝ }
 {
     let p = s.program;
     let v = s.saved;
     let l = s.log;
     let o = s.out;
     tried(
-        c,
+        b,
         op,
         x,
         &mut program[0..p],
@@ -93,6 +99,7 @@ fn lent(
 
 // ---- what is told
 
+// One byte more of a sum.
 fn added(h: u64, b: u8) -> u64
     requires { ⌜ h < 65521 ⌝ }
     ensures small { λ r. ⌜ r < 65521 ⌝ }
@@ -111,46 +118,60 @@ fn sum(area: &[u8]) -> u64 {
     h
 }
 
-fn number(v: u64) {
-    io::print_decimal(STDOUT_FILENO, v);
-    io::write_all(STDOUT_FILENO, &[b' ']);
+// A number, and a space.
+fn number(output: Output, block: &mut [u8], v: u64) -> Output {
+    let digits = output.put_number(block, v);
+    digits.put(block, &[b' '])
 }
 
-// The bytes written, and the end of the line.
-fn bytes(out: &[u8], n: usize) {
-    if n <= out.len() {
-        io::write_all(STDOUT_FILENO, &out[..n]);
-    }
-    io::write_all(STDOUT_FILENO, &[10]);
+// The three numbers that a call returned.
+fn returned(output: Output, block: &mut [u8], a: Returned) -> Output {
+    let refusal = number(output, block, a.refusal as u64);
+    let lines = number(refusal, block, a.lines as u64);
+    number(lines, block, a.written as u64)
 }
 
-fn told(
-    refusal: u8,
-    lines: u16,
-    written: usize,
+// A sum of each buffer.
+fn sums(
+    output: Output,
+    block: &mut [u8],
     program: &[u8],
     saved: &[u8],
     log: &[u8],
     out: &[u8],
-) {
-    number(refusal as u64);
-    number(lines as u64);
-    number(written as u64);
-    number(sum(program));
-    number(sum(saved));
-    number(sum(log));
-    number(sum(out));
-    bytes(out, written);
+) -> Output {
+    let of_program = number(output, block, sum(program));
+    let of_saved = number(of_program, block, sum(saved));
+    let of_log = number(of_saved, block, sum(log));
+    number(of_log, block, sum(out))
+}
+
+// The line that tells of a call: what it returned, what it left, and the bytes written.
+fn told(
+    output: Output,
+    block: &mut [u8],
+    a: Returned,
+    program: &[u8],
+    saved: &[u8],
+    log: &[u8],
+    out: &[u8],
+) -> Output {
+    let numbers = returned(output, block, a);
+    let areas = sums(numbers, block, program, saved, log, out);
+    let bytes = areas.put_first(block, out, a.written);
+    bytes.put(block, &[10])
 }
 
 // ---- records that are no calls
 
+// A byte of a buffer is altered, where it has that one.
 fn altered(area: &mut [u8], at: usize, x: u8) {
     if at < area.len() {
         area[at] = x;
     }
 }
 
+// So much of a buffer is lent from now on, where there is as much.
 fn resized(mut s: Sizes, op: u8, n: usize) -> Sizes
     requires { ⌜ Fits s ⌝ }
     ensures fits { λ r. ⌜ Fits r ⌝ }
@@ -182,6 +203,7 @@ fn resized(mut s: Sizes, op: u8, n: usize) -> Sizes
     s
 }
 
+// A record that makes a call.
 fn is_call(op: u8) -> bool {
     match op {
         b'o' => true,
@@ -193,8 +215,9 @@ fn is_call(op: u8) -> bool {
     }
 }
 
+// The record of four bytes.
 fn made_of(op: u8, x: u8, high: u8, low: u8) -> Record {
-    let at = high as usize * 256 + low as usize;
+    let at = formats::number_of_two(high, low) as usize;
     let size = x as usize * 65536 + at;
     Record {
         op,
@@ -208,7 +231,7 @@ fn made_of(op: u8, x: u8, high: u8, low: u8) -> Record {
 // The next record, whole or cut short by the end of the input.
 fn read_record() -> Record {
     let mut b = [0u8; 4];
-    let n = io::read_full(STDIN_FILENO, &mut b);
+    let n = streams::read_whole(&mut b);
     if n < 4 {
         return Record {
             op: 0,
@@ -225,96 +248,125 @@ fn read_record() -> Record {
 
 // One record.
 fn one(
-    c: Controller,
+    b: SwitchBox,
+    output: Output,
     s: Sizes,
     r: Record,
     program: &mut [u8],
     saved: &mut [u8],
     log: &mut [u8],
     out: &mut [u8],
-) -> Controller
-    requires { ⌜ (Invariant c) × (Fits s) × (Buffers (now program) (now saved) (now log) (now out)) ⌝ }
-    ensures kept { λ r. ⌜ Invariant r ⌝ }
+    block: &mut [u8],
+) -> After
+    requires { ⌜ (Invariant (b .controller)) × (Fits s) × (Buffers (now program) (now saved) (now log) (now out)) ⌝ }
+    ensures kept { λ r. ⌜ Invariant (r .held .controller) ⌝ }
 {
     if is_call(r.op) {
-        let a = lent(c, s, r.op, r.x, program, saved, log, out);
-        told(a.refusal, a.lines, a.written, program, saved, log, out);
-        let state = a.state;
-        return state;
+        let a = lent(b, s, r.op, r.x, program, saved, log, out);
+        let line = told(output, block, a, program, saved, log, out);
+        let held = a.next;
+        return After { held, output: line };
     }
     if r.op == b'A' {
         altered(program, r.at, r.x);
-        return c;
+        return After { held: b, output };
     }
     if r.op == b'V' {
         altered(saved, r.at, r.x);
-        return c;
+        return After { held: b, output };
     }
     if r.op == b'G' {
         altered(log, r.at, r.x);
-        return c;
+        return After { held: b, output };
     }
-    c
+    After { held: b, output }
 }
 
-// The next record, if there is one.
+// The next record, if there is one. At the end what is gathered goes out.
 fn turn(
-    c: Controller,
+    b: SwitchBox,
+    output: Output,
     s: Sizes,
     program: &mut [u8],
     saved: &mut [u8],
     log: &mut [u8],
     out: &mut [u8],
+    block: &mut [u8],
 ) -> Next
-    requires { ⌜ (Invariant c) × (Fits s) × (Buffers (now program) (now saved) (now log) (now out)) ⌝ }
-    ensures kept { λ r. ⌜ (Invariant (r .state)) × (Fits (r .sizes))
+    requires { ⌜ (Invariant (b .controller)) × (Fits s) × (Buffers (now program) (now saved) (now log) (now out)) ⌝ }
+    ensures kept { λ r. ⌜ (Invariant (r .held .controller)) × (Fits (r .sizes))
         × (Buffers (now (program .exit)) (now (saved .exit)) (now (log .exit)) (now (out .exit))) ⌝ }
 {
     let r = read_record();
     if !r.whole {
         return Next {
-            state: c,
+            held: b,
+            output: output.flushed(block),
             sizes: s,
             on: false,
         };
     }
-    let state = one(c, s, r, program, saved, log, out);
+    let a = one(b, output, s, r, program, saved, log, out, block);
+    let held = a.held;
+    let output = a.output;
     let sizes = resized(s, r.op, r.size);
+    let on = output.open;
     Next {
-        state,
+        held,
+        output,
         sizes,
-        on: true,
+        on,
     }
 }
 
 // Records to the end of the input. A proved loop has to end, so it counts its turns down.
-fn turns(c: Controller, program: &mut [u8], saved: &mut [u8], log: &mut [u8], out: &mut [u8])
-    requires { ⌜ (Invariant c) × (Buffers (now program) (now saved) (now log) (now out)) ⌝ }
+fn turns(
+    b: SwitchBox,
+    program: &mut [u8],
+    saved: &mut [u8],
+    log: &mut [u8],
+    out: &mut [u8],
+    block: &mut [u8],
+)
+    requires { ⌜ (Invariant (b .controller)) × (Buffers (now program) (now saved) (now log) (now out)) ⌝ }
 {
-    let mut state = c;
+    let mut held = b;
+    let mut output = Output::new();
     let mut sizes = Sizes {
         program: 1600,
         saved: 1600,
-        log: 24,
+        log: log::LEAST_AREA,
         out: 16,
     };
     let mut left = u64::MAX;
     while left > 0 {
-        let n = turn(state, sizes, program, saved, log, out);
+        let n = turn(held, output, sizes, program, saved, log, out, block);
         if !n.on {
             return;
         }
-        state = n.state;
+        held = n.held;
+        output = n.output;
         sizes = n.sizes;
         left -= 1;
     }
 }
 
+// A box that was refused power-on, buffers of zeros, and the records of the input.
 fn main() {
     let mut program = [0u8; 1608];
     let mut saved = [0u8; 1608];
     let mut log = [0u8; 65544];
     let mut out = [0u8; 128];
-    let unpowered = deeds::fresh(0);
-    turns(unpowered, &mut program, &mut saved, &mut log, &mut out);
+    let mut block = [0u8; 4096];
+    // before any power-on the box is what a refused one returns; `out` is no program area
+    let a = SwitchBox::power_on(&mut out, &saved, &log);
+    let unpowered = a.next;
+    turns(
+        unpowered,
+        &mut program,
+        &mut saved,
+        &mut log,
+        &mut out,
+        &mut block,
+    );
 }

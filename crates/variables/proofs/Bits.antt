@@ -10,6 +10,7 @@ use lib.Pow.{pow-pos, pow-add, pow-mono, ones-split, ones-lt, shr-lt, shl-exact,
 use lib.Bits.{bitAnd, bitOr, and-block, or-block, and-mask, or-shifted, or-zero-r}
 use mir.Val.{boolByte}
 use Rattle.formats.specs.Digits.{digits, numberAfter, number}
+use Rattle.formats.specs.Bytes.{bytes}
 use Rattle.variables.specs.Variables.{statusBits, outputByte, withOutputByte}
 
 -- w with its eight bits from bit s on replaced by b: what stands above them, b, and what stands below
@@ -44,11 +45,13 @@ module _ (w s b j : ℕ) (j-is : j + (8 + s) ≡ 32) (w-fits : w < 2 ^ 32) (b-fi
       ∙ ap (λ (x : ℕ). x * 2 ^ (8 + s) + bitAnd r (2 ^ s - 1)) high
       ∙ ap (λ (x : ℕ). w / 2 ^ (8 + s) * 2 ^ (8 + s) + x) low
 
-  pub placed : bitOr (bitAnd w (4294967295 - 255 * 2 ^ s % 4294967296)) (b * 2 ^ s % 4294967296) ≡ withByte w s b
+  pub masked : bitOr (bitAnd w (4294967295 - 255 * 2 ^ s % 4294967296)) (b * 2 ^ s % 4294967296) ≡ withByte w s b
   unfolding withByte
-  placed =
+  masked =
       let a = w / 2 ^ (8 + s) in
-      let up : w / 2 ^ (8 + s) * 2 ^ (8 + s) ≡ w / 2 ^ (8 + s) * 256 * 2 ^ s = ap (λ (x : ℕ). w / 2 ^ (8 + s) * x) (pow-add 2 8 s) ∙ sym (mul-assoc (w / 2 ^ (8 + s)) 256 (2 ^ s)) in
+      let up : w / 2 ^ (8 + s) * 2 ^ (8 + s)
+      ≡ w / 2 ^ (8 + s) * 256 * 2 ^ s = ap (λ (x : ℕ). w / 2 ^ (8 + s) * x) (pow-add 2 8 s)
+      ∙ sym (mul-assoc (w / 2 ^ (8 + s)) 256 (2 ^ s)) in
       ap (λ (x : ℕ). bitOr (bitAnd w (4294967295 - x)) (b * 2 ^ s % 4294967296)) (shl-exact 8 s 32 (omega arith) (omega arith))
       ∙ ap (λ (x : ℕ). bitOr (bitAnd w (4294967295 - 255 * 2 ^ s)) x) (shl-exact 8 s 32 b-fits (omega arith))
       ∙ ap (λ (x : ℕ). bitOr x (b * 2 ^ s)) (cleared ∙ ap (λ (x : ℕ). x + w % 2 ^ s) up)
@@ -59,7 +62,7 @@ module _ (w s b j : ℕ) (j-is : j + (8 + s) ≡ 32) (w-fits : w < 2 ^ 32) (b-fi
 
 -- ---- the four bytes of a word, number i from the highest, which has 8 * (3 - i) bits below it
 
-byte-of : (w i : ℕ) → i < 4 → w / 2 ^ (8 * (3 - i)) % 256 ≡ getD (digits 256 4 w) i 0
+byte-of : (w i : ℕ) → i < 4 → w / 2 ^ (8 * (3 - i)) % 256 ≡ getD (bytes 4 w) i 0
 unfolding digits
 byte-of w zero lt = omega arith
 byte-of w (suc zero) lt = omega arith
@@ -67,7 +70,7 @@ byte-of w (suc (suc zero)) lt = omega arith
 byte-of w (suc (suc (suc zero))) lt = omega arith
 byte-of w (suc (suc (suc (suc i)))) lt = absurd (omega arith)
 
-byte-set : (w b i : ℕ) → i < 4 → w < 2 ^ 32 → withByte w (8 * (3 - i)) b ≡ number 256 (set (digits 256 4 w) i b)
+byte-set : (w b i : ℕ) → i < 4 → w < 2 ^ 32 → withByte w (8 * (3 - i)) b ≡ number 256 (set (bytes 4 w) i b)
 unfolding withByte digits numberAfter
 byte-set w b zero lt f = omega arith
 byte-set w b (suc zero) lt f = omega arith
@@ -88,7 +91,7 @@ module _ (w k s : ℕ) (low : 203 ≤ k) (high : k ≤ 206) (s-is : s ≡ 8 * (2
       → bitOr (bitAnd w (4294967295 - 255 * 2 ^ s % 4294967296)) (b * 2 ^ s % 4294967296) ≡ withOutputByte k b w
   unfolding withOutputByte
   masked-in b w-fits b-fits =
-      placed w s b (24 - s) (omega arith) w-fits b-fits ∙ ap (λ (x : ℕ). withByte w x b) below ∙ byte-set w b (k - 203) (omega arith) w-fits
+      masked w s b (24 - s) (omega arith) w-fits b-fits ∙ ap (λ (x : ℕ). withByte w x b) below ∙ byte-set w b (k - 203) (omega arith) w-fits
 
 -- ---- the status byte
 

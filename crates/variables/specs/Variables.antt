@@ -6,7 +6,8 @@ use mathlib.Core.List.{List}
 use lib.ListN.{getD, set}
 use lib.Dec.{leb, eqb}
 use Rattle.formats.specs.Checks.{if_then_else_}
-use Rattle.formats.specs.Digits.{digits, number, h, d, 2d}
+use Rattle.formats.specs.Digits.{number, h, d, 2d}
+use Rattle.formats.specs.Bytes.{bytes}
 use Rattle.lines.specs.declared.Line.{Line}
 use Rattle.lines.specs.Line.{readLine}
 use Rattle.lines.specs.Program.{lineAt}
@@ -31,11 +32,11 @@ status panel run paused = statusBits (panel .unread) (run .on) paused
 
 -- 203-206 are the four bytes of the output word, the highest first: "outputs 32-25, 24-17, 16-9, 8-1"; "Output n is bit n-1".
 unfoldable pub outputByte : ℕ → ℕ → ℕ
-outputByte k word = getD (digits 256 4 word) (k - 203) 0
+outputByte k word = getD (bytes 4 word) (k - 203) 0
 
 -- "A write to 203-206 alters its eight bits of the output word and no other bit."
 unfoldable pub withOutputByte : ℕ → ℕ → ℕ → ℕ
-withOutputByte k x word = number 256 (set (digits 256 4 word) (k - 203) x)
+withOutputByte k x word = number 256 (set (bytes 4 word) (k - 203) x)
 
 -- what a read of address k answers
 unfoldable pub value : Panel → Run → Bool → List ℕ → ℕ → List ℕ

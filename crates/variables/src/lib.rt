@@ -1,12 +1,13 @@
-// The 217 variables: what a read of an address answers, and the output word with one of its bytes written.
-// 01, 'Variables', its table. Definitions: specs/Variables.antt.
+// The 217 variables: those that stand for themselves, what a read of an address answers, and the output word with one of its bytes
+// written. 01, 'Variables', its table. Definitions: specs/Panel.antt, specs/Variables.antt.
 ghost use mathlib.Core.Path.{_≡_};
 ghost use Prim.Native.Nat.{_-_, _*_, _≤_};
 ghost use lib.ListN.{length};
 ghost use Rattle.formats.specs.Digits.{h, d, 2d};
-ghost use Rattle.formats.specs.Values.{textOf};
-ghost use Rattle.lines.specs.Line.{readLine};
+ghost use Rattle.formats.specs.NumbersAndTexts.{textOf};
+ghost use Rattle.lines.specs.Line.{readLine, bytesOf};
 ghost use Rattle.running.specs.Running.{counter};
+ghost use Rattle.variables.specs.Panel.{freshPanel, withSingle, withParameter, withSpecial, withEvent};
 ghost use Rattle.variables.specs.Variables.{lineOf, statusBits, outputByte, withOutputByte, value};
 use formats::Text;
 use lines::Line;
@@ -24,6 +25,56 @@ pub struct Panel {
     // 212, and D7 of 201
     pub event: u8,
     pub unread: bool,
+}
+
+impl Panel {
+    // At power-on.
+    pub fn fresh() -> Panel
+        ensures panel { λ r. ⌜ r ≡ freshPanel ⌝ }
+    {
+        let single = lines::bytes_of(lines::end_mark());
+        Panel {
+            single,
+            parameter: 0,
+            special: 0,
+            event: 12,
+            unread: true,
+        }
+    }
+
+    // 200 is that line.
+    pub fn with_single(mut self, l: Line) -> Panel
+        ensures panel { λ r. ⌜ r ≡ withSingle (bytesOf l) self ⌝ }
+    {
+        let bytes = lines::bytes_of(l);
+        self.single = bytes;
+        self
+    }
+
+    // 209 is v.
+    pub fn with_parameter(mut self, v: u8) -> Panel
+        ensures panel { λ r. ⌜ r ≡ withParameter v self ⌝ }
+    {
+        self.parameter = v;
+        self
+    }
+
+    // 210 is that code.
+    pub fn with_special(mut self, code: u8) -> Panel
+        ensures panel { λ r. ⌜ r ≡ withSpecial code self ⌝ }
+    {
+        self.special = code;
+        self
+    }
+
+    // 212 is that event, and D7 of 201 says whether it is unread.
+    pub fn with_event(mut self, event: u8, unread: bool) -> Panel
+        ensures panel { λ r. ⌜ r ≡ withEvent event unread self ⌝ }
+    {
+        self.event = event;
+        self.unread = unread;
+        self
+    }
 }
 
 // ---- bits

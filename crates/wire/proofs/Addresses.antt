@@ -13,7 +13,7 @@ use Rattle.formats.specs.Checks.{passed, _>>=_, _>>_, _orElse_, text, Ok}
 use Rattle.formats.specs.Digits.{digits, digitChar, shown, numberIn}
 use Rattle.formats.proofs.Checks.{if-case, both-true, below, ok-passed, ok-guard}
 use Rattle.formats.proofs.Characters.{shown-back}
-use Rattle.lines.specs.Line.{part}
+use Rattle.formats.specs.Bytes.{part}
 use Rattle.wire.specs.Command.{char, isRead, isWrite, isStepwise, hasAddress, inFormat, rest, addressIn, isWritable}
 use Rattle.wire.specs.Naming.{Names, byDigits, byI, byD}
 
@@ -51,8 +51,15 @@ module _ (x y next k : ℕ) (inside : k ≤ 216) (more : List ℕ) where
   pub found : {a : List ℕ} → Names next k a → Found a
   unfolding addressIn text _>>_ _orElse_
   found (byDigits e) = rw e found-digits
-  found (byI e n) = rw e (record { address = rw (← n, le-leb k 216 inside); behind = refl; three = le-leb 3 (suc (suc (suc (length more)))) (omega arith); long = refl })
-  found (byD e n) = rw e (record { address = rw (le-leb 2 next (omega arith)) (ap passed (omega arith)); behind = refl; three = le-leb 3 (suc (suc (suc (length more)))) (omega arith); long = refl })
+  found (byI e n) =
+      rw e (record { address = rw (← n, le-leb k 216 inside); behind = refl; three = le-leb 3 (suc (suc (suc (length more)))) (omega arith); long = refl })
+  found (byD e n) =
+      rw e (record {
+        address = rw (le-leb 2 next (omega arith)) (ap passed (omega arith));
+        behind = refl;
+        three = le-leb 3 (suc (suc (suc (length more)))) (omega arith);
+        long = refl;
+      })
 
 -- Every address that passes the check lies in 000-216.
 pub address-inside : (next : ℕ) (cs : List ℕ) → next ≤ 217 → Ok (λ k. k ≤ 216) (addressIn next cs)

@@ -21,7 +21,7 @@ use Rattle.wire.specs.declared.Data.the-variants.{WriteLine}
 use Rattle.wire.specs.declared.Asked.{Asked}
 use Rattle.wire.specs.declared.Asked.the-variants.{Read, Write}
 use Rattle.wire.specs.Collecting.{sent}
-use Rattle.special.specs.Special.{allowed, specialOf, inReach}
+use Rattle.special.specs.Special.{forbidden, allowed, specialOf, inReach}
 use Rattle.wire.specs.Command.{isRead, rest, isWritable, isOpen, specialIn, dataIn, readCommand, writeCommand, commandIn, command}
 use Rattle.wire.specs.Naming.{Names}
 use Rattle.wire.specs.Sound.{SoundData, Sound}
@@ -35,7 +35,7 @@ module _ (mode : Mode) (parameter : ℕ) where
   unfolding specialIn
   special-sound k cs =
       ok-passed (SoundData mode parameter k) (dIn cs) _ λ n _. ok-passed (SoundData mode parameter k) (specialOf n) _ λ s _.
-      ok-guard (SoundData mode parameter k) (allowed s mode) 5 _ λ e.
+      ok-guard (SoundData mode parameter k) (allowed s mode) (forbidden s mode) _ λ e.
       ok-guard (SoundData mode parameter k) (inReach s parameter) 4 _ λ f. record { may = e; reaches = f }
 
   data-sound : (k : ℕ) (cs : List ℕ) → isWritable k ≡ true → Ok (SoundData mode parameter k) (dataIn mode parameter k cs)

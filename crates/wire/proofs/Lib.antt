@@ -2,5 +2,5 @@ pub mod Collecting
 pub mod Addresses
 pub mod Commands
 pub mod Quiet
-pub mod Answers
+pub mod DataHeard
 pub mod Ways

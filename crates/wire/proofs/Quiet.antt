@@ -14,13 +14,12 @@ use Rattle.formats.proofs.Checks.{if-case, either-true, ok-bind, ok-passed, ok-
 use Rattle.wire.specs.declared.Wire.{Wire}
 use Rattle.special.specs.declared.Mode as M
 use Rattle.special.specs.declared.Mode.{Mode}
-use Rattle.special.specs.declared.Special.the-variants.{Stop, Pause}
 use Rattle.wire.specs.declared.Data.{Data}
 use Rattle.wire.specs.declared.Data.the-variants.{WriteLine, WriteOutputs, WriteParameter, WriteSpecial}
 use Rattle.wire.specs.declared.Asked.{Asked}
 use Rattle.wire.specs.declared.Asked.the-variants.{Read, Write}
 use Rattle.wire.specs.Collecting.{sent}
-use Rattle.special.specs.Special.{allowed, inReach, specialOf}
+use Rattle.special.specs.Special.{forbidden, allowed, inReach, specialOf}
 use Rattle.special.proofs.Quiet.{quietSpecial, special-quiet}
 use Rattle.wire.specs.Command.{isRead, isWritable, isOpen, rest, addressIn, specialIn, dataIn, readCommand, writeCommand, commandIn, command}
 
@@ -51,7 +50,7 @@ module _ (mode : Mode) (parameter : ℕ) (runs : mode ≢ M.the-variants.Stop) w
   unfolding specialIn
   special-in-quiet cs =
       ok-passed QuietData (dIn cs) _ λ n _. ok-passed QuietData (specialOf n) _ λ s _.
-      ok-guard QuietData (allowed s mode) 5 _ λ e. ok-guard QuietData (inReach s parameter) 4 _ λ _. special-quiet s mode runs e
+      ok-guard QuietData (allowed s mode) (forbidden s mode) _ λ e. ok-guard QuietData (inReach s parameter) 4 _ λ _. special-quiet s mode runs e
 
   parameter-quiet : (cs : List ℕ) → Ok QuietData (dIn cs >>= (λ v. passed (WriteParameter v)))
   parameter-quiet cs = ok-passed QuietData (dIn cs) _ λ v _. refl

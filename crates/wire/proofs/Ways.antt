@@ -13,14 +13,15 @@ use Rattle.special.specs.declared.Mode.{Mode}
 use Rattle.wire.specs.declared.Wire.{Wire}
 use Rattle.wire.specs.declared.Heard.{Heard}
 use Rattle.wire.specs.Collecting.{capital, sent}
-use Rattle.wire.specs.Values.{heardOf}
+use Rattle.wire.specs.HeardCommand.{heardOf}
 use Rattle.wire.specs.Command.{char, hasAddress, inFormat, readCommand, writeCommand, commandIn, command}
 
 -- the format of a read and of a write
 pub format-read : (cs : List ℕ) (overlong : Bool) → overlong ≡ false → char cs 0 ≡ code "C" → char cs 1 ≡ code "R" → inFormat overlong cs ≡ hasAddress cs
 format-read cs overlong a b d = rw (a, eq-eqb _ _ b, eq-eqb _ _ d)
 
-pub format-write : (cs : List ℕ) (overlong : Bool) → overlong ≡ false → char cs 0 ≡ code "C" → (char cs 1 ≡ code "R" → ⊥) → char cs 1 ≡ code "W" → inFormat overlong cs ≡ hasAddress cs
+pub format-write : (cs : List ℕ) (overlong : Bool) → overlong ≡ false → char cs 0 ≡ code "C" → (char cs 1 ≡ code "R" → ⊥)
+    → char cs 1 ≡ code "W" → inFormat overlong cs ≡ hasAddress cs
 format-write cs overlong a b d e = rw (a, eq-eqb _ _ b, ne-eqb _ _ d, eq-eqb _ _ e)
 
 module _ (cs : List ℕ) (w : Wire) (mode : Mode) (parameter : ℕ) where
@@ -36,11 +37,15 @@ module _ (cs : List ℕ) (w : Wire) (mode : Mode) (parameter : ℕ) where
   unfolding commandIn _>>_ _orElse_
   reads-one le f e = rw (le-leb _ _ le, f, eq-eqb _ _ e)
 
-  pub writes-one : 3 ≤ length cs → inFormat (w .overlong) cs ≡ true → (char cs 1 ≡ code "R" → ⊥) → commandIn cs w mode parameter ≡ writeCommand mode parameter (w .nextwrite) cs
+  pub writes-one : 3 ≤ length cs → inFormat (w .overlong) cs ≡ true → (char cs 1 ≡ code "R" → ⊥)
+      → commandIn cs w mode parameter ≡ writeCommand mode parameter (w .nextwrite) cs
   unfolding commandIn _>>_ _orElse_
   writes-one le f e = rw (le-leb _ _ le, f, ne-eqb _ _ e)
 
 -- what was sent is read
-pub heard-sent : (w : Wire) (mode : Mode) (parameter : ℕ) (copy : List ℕ) {r : Heard} → take (w .len) copy ≡ map capital (take (w .len) (w .chars)) → r ≡ heardOf (commandIn (take (w .len - 0) copy) w mode parameter) → r ≡ heardOf (command w mode parameter)
+pub heard-sent : (w : Wire) (mode : Mode) (parameter : ℕ) (copy : List ℕ) {r : Heard}
+    → take (w .len) copy ≡ map capital (take (w .len) (w .chars)) → r ≡ heardOf (commandIn (take (w .len - 0) copy) w mode parameter)
+    → r ≡ heardOf (command w mode parameter)
 unfolding command sent
-heard-sent w mode parameter copy e h = h ∙ ap (λ l. heardOf (commandIn l w mode parameter)) (ap (λ n. take n copy) (let n : w .len - 0 ≡ w .len = omega arith in n) ∙ e)
+heard-sent w mode parameter copy e h =
+    h ∙ ap (λ l. heardOf (commandIn l w mode parameter)) (ap (λ n. take n copy) (let n : w .len - 0 ≡ w .len = omega arith in n) ∙ e)

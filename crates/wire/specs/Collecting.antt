@@ -1,17 +1,29 @@
--- Bytes are collected.
+-- Bytes are collected, and each direction keeps its last address.
 -- 01, 'The wire': "Byte 13 ends a command. Byte 32 is dropped. a-z count as A-Z. All other bytes, 10 included, are characters.
 -- At most 32 characters are kept; a 33rd makes the command overlong until its 13."
 use Prim.Native.Nat.{ℕ, _+_, _-_}
 use Prim.Native.Char.{code}
 use mathlib.Core.Bool.{true, false, _&&_}
 use mathlib.Core.List.{List, map}
-use lib.ListN.{take, set}
+use lib.ListN.{take, set, replicate}
 use lib.Dec.{leb, ltb, eqb}
 use Rattle.formats.specs.Checks.{if_then_else_}
 use Rattle.wire.specs.declared.Wire.{Wire}
 
 abbrev pub mostChars : ℕ
 mostChars = 32
+
+-- At power-on nothing is collected. "Read and write keep separate last addresses, both 000 at power-on (*house*)", so the next ones
+-- are 001.
+abbrev pub freshWire : Wire
+freshWire = record { chars = replicate mostChars 0; len = 0; overlong = false; nextread = 1; nextwrite = 1 }
+
+-- "They move only on a command answered without an error": address k was read, or written
+abbrev pub readTo : ℕ → Wire → Wire
+readTo k w = record { chars = w .chars; len = w .len; overlong = w .overlong; nextread = k + 1; nextwrite = w .nextwrite }
+
+abbrev pub wroteTo : ℕ → Wire → Wire
+wroteTo k w = record { chars = w .chars; len = w .len; overlong = w .overlong; nextread = w .nextread; nextwrite = k + 1 }
 
 -- a character is kept as received
 abbrev pub keep : ℕ → Wire → Wire

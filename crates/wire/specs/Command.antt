@@ -7,7 +7,7 @@ use lib.ListN.{length, getD, drop}
 use lib.Dec.{leb, eqb}
 use Rattle.formats.specs.Checks.{if_then_else_, Res, passed, _>>=_, _>>_, _orElse_}
 use Rattle.formats.specs.Digits.{numberIn, hIn, dIn}
-use Rattle.lines.specs.Line.{part}
+use Rattle.formats.specs.Bytes.{part}
 use Rattle.texts.specs.Text.{lineIn}
 use Rattle.wire.specs.declared.Wire.{Wire}
 use Rattle.special.specs.declared.Mode.{Mode}
@@ -17,7 +17,7 @@ use Rattle.wire.specs.declared.Data.the-variants.{WriteLine, WriteOutput
 use Rattle.wire.specs.declared.Asked.{Asked}
 use Rattle.wire.specs.declared.Asked.the-variants.{Read, Write}
 use Rattle.wire.specs.Collecting.{sent}
-use Rattle.special.specs.Special.{allowed, specialOf, inReach}
+use Rattle.special.specs.Special.{forbidden, allowed, specialOf, inReach}
 
 abbrev pub char : List ℕ → ℕ → ℕ
 char cs i = getD cs i 0
@@ -72,7 +72,7 @@ unfoldable pub specialIn : Mode → ℕ → List ℕ → Res Data
 specialIn mode parameter cs = do
   n ← dIn cs
   s ← specialOf n
-  allowed s mode orElse 5
+  allowed s mode orElse forbidden s mode
   inReach s parameter orElse 4
   passed (WriteSpecial s)
 

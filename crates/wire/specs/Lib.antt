@@ -1,6 +1,6 @@
 pub mod Collecting
 pub mod Command
-pub mod Values
+pub mod HeardCommand
 pub mod Naming
 pub mod Invariant
 pub mod Sound

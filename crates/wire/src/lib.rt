@@ -1,16 +1,16 @@
 // The wire: characters are collected, byte 13 ends a command, and the checks decide what it asks for.
-// Definitions: specs/Collecting.antt, specs/Command.antt; specs/Values.antt for what the types of the answers stand for.
+// Definitions: specs/Collecting.antt, specs/Command.antt; specs/HeardCommand.antt for what the types of the answers stand for.
 ghost use mathlib.Core.Path.{_≡_};
 ghost use mathlib.Core.Bool.{true, _||_};
 ghost use mathlib.Core.List.{map};
-ghost use Prim.Native.Nat.{_+_, _≤_};
+ghost use Prim.Native.Nat.{_≤_};
 ghost use lib.Dec.{eqb};
 ghost use lib.ListN.{length, take, drop};
-ghost use Rattle.formats.specs.Values.{byteOf};
-ghost use Rattle.wire.specs.Collecting.{collect, cleared, capital};
-ghost use Rattle.wire.specs.Command.{isStepwise, addressIn, isWritable, isOpen, rest, hasAddress, inFormat, specialIn, dataIn, readCommand, writeCommand, commandIn, command};
-ghost use Rattle.wire.specs.Invariant.{WireInvariant};
-ghost use Rattle.wire.specs.Values.{givenOf, heardOf};
+ghost use Rattle.formats.specs.NumbersAndTexts.{byteOf};
+ghost use Rattle.wire.specs.Collecting.{freshWire, readTo, wroteTo, collect, cleared, capital};
+ghost use Rattle.wire.specs.Command.{isStepwise, addressIn, isWritable, isOpen, rest, hasAddress, inFormat};
+ghost use Rattle.wire.specs.Command.{specialIn, dataIn, readCommand, writeCommand, commandIn, command};
+ghost use Rattle.wire.specs.HeardCommand.{givenOf, heardOf};
 use formats::Byte;
 use formats::Number;
 use lines::Line;
@@ -60,6 +60,38 @@ pub enum Heard {
 }
 
 impl Wire {
+    // At power-on nothing is collected, and the last addresses are 000.
+    pub fn fresh() -> Wire
+        ensures wire { λ r. ⌜ r ≡ freshWire ⌝ }
+    {
+        let chars = [0u8; 32];
+        Wire {
+            chars,
+            len: 0,
+            overlong: false,
+            nextread: 1,
+            nextwrite: 1,
+        }
+    }
+
+    // The last address read is k.
+    pub fn having_read(mut self, k: u8) -> Wire
+        requires { ⌜ k ≤ 216 ⌝ }
+        ensures wire { λ r. ⌜ r ≡ readTo k self ⌝ }
+    {
+        self.nextread = k + 1;
+        self
+    }
+
+    // The last address written is k.
+    pub fn having_written(mut self, k: u8) -> Wire
+        requires { ⌜ k ≤ 216 ⌝ }
+        ensures wire { λ r. ⌜ r ≡ wroteTo k self ⌝ }
+    {
+        self.nextwrite = k + 1;
+        self
+    }
+
     // A byte other than 13: 32 is dropped, a character is kept where there is room, and makes the command overlong where there is none.
     pub fn collect(mut self, x: u8) -> Wire
         requires { ⌜ self .len ≤ 32 ⌝ }
@@ -191,8 +223,8 @@ fn is_open(mode: Mode, k: u8) -> bool
     }
 }
 
-// Check 7: the special command that a code names; E003 where it names none, E005 where it is forbidden in the present state, E004
-// where the parameter is out of its reach.
+// Check 7: the special command that a code names; E003 where it names none, the table's error where it is forbidden in the present state,
+// E004 where the parameter is out of its reach.
 fn special_in(mode: Mode, parameter: u8, cs: &[u8]) -> Given
     ensures special { λ r. ⌜ r ≡ givenOf (specialIn mode parameter (now (cs .entry))) ⌝ }
 {
@@ -208,13 +240,14 @@ fn special_in(mode: Mode, parameter: u8, cs: &[u8]) -> Given
             return Given::Error(e);
         }
     };
-    if special::is_allowed(s, mode) {
-        if special::in_reach(s, parameter) {
-            return Given::Is(Data::WriteSpecial(s));
-        }
-        return Given::Error(4);
+    let forbidden = special::forbidden(s, mode);
+    if forbidden != 0 {
+        return Given::Error(forbidden);
     }
-    Given::Error(5)
+    if special::in_reach(s, parameter) {
+        return Given::Is(Data::WriteSpecial(s));
+    }
+    Given::Error(4)
 }
 
 // The data of a write, by its address: a line, outputs, the parameter or a special command.

@@ -1,6 +1,6 @@
 -- `answers::answer` meets its contract.
 -- Assumes nothing.
-use Rattle.deeds.specs.Values.{areas}
+use Rattle.deeds.specs.OnAreas.{areas}
 use Rattle.answers.proofs.Sounds.{sound-heard}
 use Rattle.answers.proofs.Replies.{heard-answered, refused-answered}
 use borrow.Author.Needs.{needs}
@@ -11,7 +11,14 @@ enum-known-heard : tie.Need-enum-known-heard
 enum-known-heard c = search needs
 
 answer-asked-requires : tie.Need-answer-asked-requires
-answer-asked-requires c κs = (search needs, search needs, search needs, sound-heard _ _ _ (c .before .before .before .before .heard .given .1) (c .before .before .before .before .before .before .before .before .before .pre .3))
+answer-asked-requires c κs = (
+  search needs,
+  search needs,
+  search needs,
+  let pre = c .before .before .before .before .before .before .before .before .before .pre in
+      let heard = c .before .before .before .before .heard in
+      sound-heard _ _ _ (heard .given .1) (pre .3),
+)
 
 enum-known-heard-2 : tie.Need-enum-known-heard-2
 enum-known-heard-2 c = search needs
@@ -29,13 +36,23 @@ same-length-3 : tie.Need-same-length-3
 same-length-3 c = search needs
 
 returns : tie.Need-returns
-returns c = λ l. heard-answered (c .before .before .before .before .before .before .before .before .before .before .before .before .before .before .before .before .args .c) (areas (c .before .before .before .before .before .before .before .before .before .before .before .before .before .before .before .before .args .program .now) (c .before .before .before .before .before .before .before .before .before .before .before .before .before .before .before .before .args .saved .now) l (c .before .before .before .before .before .before .before .before .before .before .before .before .before .before .before .before .args .reply .now)) _ (c .before .before .before .before .before .before .before .before .before .before .before .heard .given .1) (c .before .before .before .before .before .before .answer-asked .ensures l)
+returns c =
+    let earlier = c .before .before .before .before .before .before .before .before .before .before in
+    let args = earlier .before .before .before .before .before .before .args in
+    let heard = c .before .before .before .before .before .before .before .before .before .before .before .heard in
+    let answer-asked = c .before .before .before .before .before .before .answer-asked in
+    λ l. heard-answered (args .c) (areas (args .program .now) (args .saved .now) l (args .reply .now)) _ (heard .given .1) (answer-asked .ensures l)
 
 same-length-4 : tie.Need-same-length-4
 same-length-4 c = search needs
 
 returns-2 : tie.Need-returns-2
-returns-2 c = λ l. refused-answered (c .before .before .before .before .before .before .before .before .before .before .args .c) (areas (c .before .before .before .before .before .before .before .before .before .before .args .program .now) (c .before .before .before .before .before .before .before .before .before .before .args .saved .now) l (c .before .before .before .before .before .before .before .before .before .before .args .reply .now)) _ (c .before .before .before .before .before .heard2 .given .1) (c .before .before .answer-error .ensures (c .before .before .before .before .before .before .before .before .before .before .args .program .now) (c .before .before .before .before .before .before .before .before .before .before .args .saved .now) l)
+returns-2 c =
+    let args = c .before .before .before .before .before .before .before .before .before .before .args in
+    let heard2 = c .before .before .before .before .before .heard2 in
+    let answer-error = c .before .before .answer-error in
+    λ l. refused-answered (args .c) (areas (args .program .now) (args .saved .now) l (args .reply .now)) _ (heard2 .given .1)
+    (answer-error .ensures (args .program .now) (args .saved .now) l)
 
 pub answer-spec : {M : Type 1} → statement M
 answer-spec =

@@ -8,8 +8,8 @@ use Rattle.answers.proofs.answer_error.Tie as tie
 empty-collection-requires : tie.Need-empty-collection-requires
 empty-collection-requires c κs = search needs
 
-did-requires : tie.Need-did-requires
-did-requires c κs = search needs
+nothing-run-requires : tie.Need-nothing-run-requires
+nothing-run-requires c κs = search needs
 
 error-text-requires : tie.Need-error-text-requires
 error-text-requires c κs = search needs
@@ -21,14 +21,21 @@ same-length : tie.Need-same-length
 same-length c = search needs
 
 returns : tie.Need-returns
-returns c = λ p s l. error-answered (c .before .before .before .before .before .before .before .before .args .c) p s l (c .before .before .before .before .before .before .before .before .args .reply .now) _ _ (c .before .before .before .before .before .before .before .before .args .e) (c .before .before .before .before .error-text .ensures .0) _ (c .before .before .before .before .before .before .empty-collection .ensures) _ (c .before .before .before .before .before .did .ensures) (c .before .before .said .ensures p s l)
+returns c =
+    let args = c .before .before .before .before .before .before .before .before .args in
+    let empty-collection = c .before .before .before .before .before .before .empty-collection in
+    let nothingRun = c .before .before .before .before .before .nothing-run in
+    let error-text = c .before .before .before .before .error-text in
+    let said = c .before .before .said in
+    λ p s l. error-answered (args .c) p s l (args .reply .now) _ _ (args .e) (error-text .ensures .0) _ (empty-collection .ensures) _
+    (nothingRun .ensures) (said .ensures p s l)
 
 pub answer-error-spec : {M : Type 1} → statement M
 answer-error-spec =
     tie.close
     (tie.spec
     empty-collection-requires
-    did-requires
+    nothing-run-requires
     error-text-requires
     said-requires
     same-length

@@ -14,8 +14,8 @@ empty-collection-requires c κs = search needs
 having-read-requires : tie.Need-having-read-requires
 having-read-requires c κs = search needs
 
-did-requires : tie.Need-did-requires
-did-requires c κs = search needs
+nothing-run-requires : tie.Need-nothing-run-requires
+nothing-run-requires c κs = search needs
 
 said-requires : tie.Need-said-requires
 said-requires c κs = search needs
@@ -24,7 +24,15 @@ same-length : tie.Need-same-length
 same-length c = search needs
 
 returns : tie.Need-returns
-returns c = λ s l. read-answered (c .before .before .before .before .before .before .before .before .before .before .before .before .args .c) (c .before .before .before .before .before .before .before .before .before .before .before .before .args .program .now) s l (c .before .before .before .before .before .before .before .before .before .before .before .before .args .reply .now) _ _ (c .before .before .before .before .before .before .before .before .before .before .before .before .args .k) (c .before .before .before .before .before .before .before .value .ensures .0) _ _ (c .before .before .before .before .before .before .empty-collection .ensures) (c .before .before .before .before .before .having-read .ensures) _ (c .before .before .before .before .did .ensures) (c .before .before .said .ensures (c .before .before .before .before .before .before .before .before .before .before .before .before .args .program .now) s l)
+returns c =
+    let args = c .before .before .before .before .before .before .before .before .before .before .before .before .args in
+    let value = c .before .before .before .before .before .before .before .value in
+    let empty-collection = c .before .before .before .before .before .before .empty-collection in
+    let having-read = c .before .before .before .before .before .having-read in
+    let nothingRun = c .before .before .before .before .nothing-run in
+    let said = c .before .before .said in
+    λ s l. read-answered (args .c) (args .program .now) s l (args .reply .now) _ _ (args .k) (value .ensures .0) _ _
+    (empty-collection .ensures) (having-read .ensures) _ (nothingRun .ensures) (said .ensures (args .program .now) s l)
 
 pub answer-read-spec : {M : Type 1} → statement M
 answer-read-spec =
@@ -33,7 +41,7 @@ answer-read-spec =
     value-requires
     empty-collection-requires
     having-read-requires
-    did-requires
+    nothing-run-requires
     said-requires
     same-length
     returns)

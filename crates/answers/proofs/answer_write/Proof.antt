@@ -13,7 +13,15 @@ having-written-requires : tie.Need-having-written-requires
 having-written-requires c κs = search needs
 
 write-requires : tie.Need-write-requires
-write-requires c κs = (search needs, search needs, sound-after (c .before .before .before .before .before .before .before .args .c) (c .before .before .before .before .before .before .before .args .k) (c .before .before .before .before .before .before .before .args .what) _ _ (c .before .before .before .empty-collection .ensures) (c .before .before .having-written .ensures) (c .before .before .before .before .before .before .before .pre .4))
+write-requires c κs = (
+  search needs,
+  search needs,
+  let args = c .before .before .before .before .before .before .before .args in
+      let pre = c .before .before .before .before .before .before .before .pre in
+      let empty-collection = c .before .before .before .empty-collection in
+      let having-written = c .before .before .having-written in
+      sound-after (args .c) (args .k) (args .what) _ _ (empty-collection .ensures) (having-written .ensures) (pre .4),
+)
 
 ok-text-requires : tie.Need-ok-text-requires
 ok-text-requires c κs = search needs
@@ -31,7 +39,17 @@ same-length-3 : tie.Need-same-length-3
 same-length-3 c = search needs
 
 returns : tie.Need-returns
-returns c = λ l. write-answered (c .before .before .before .before .before .before .before .before .before .before .before .before .before .before .before .before .before .args .c) (c .before .before .before .before .before .before .before .before .before .before .before .before .before .before .before .before .before .args .program .now) (c .before .before .before .before .before .before .before .before .before .before .before .before .before .before .before .before .before .args .saved .now) l (c .before .before .before .before .before .before .before .before .before .before .before .before .before .before .before .before .before .args .reply .now) _ _ (c .before .before .before .before .before .before .before .before .before .before .before .before .before .before .before .before .before .args .k) (c .before .before .before .before .before .before .before .before .before .before .before .before .before .before .before .before .before .args .what) (c .before .before .before .before .ok-text .ensures .0) _ _ (c .before .before .before .before .before .before .before .before .before .before .before .before .before .empty-collection .ensures) (c .before .before .before .before .before .before .before .before .before .before .before .before .having-written .ensures) _ _ _ (c .before .before .before .before .before .before .before .before .before .write .ensures l (c .before .before .before .before .before .before .before .before .before .before .before .before .before .before .before .before .before .args .reply .now)) (c .before .before .said .ensures _ _ l)
+returns c =
+    let earlier = c .before .before .before .before .before .before .before .before .before .before in
+    let args = earlier .before .before .before .before .before .before .before .args in
+    let empty-collection = earlier .before .before .before .empty-collection in
+    let having-written = c .before .before .before .before .before .before .before .before .before .before .before .before .having-written in
+    let the-write = c .before .before .before .before .before .before .before .before .before .write in
+    let ok-text = c .before .before .before .before .ok-text in
+    let said = c .before .before .said in
+    λ l. write-answered (args .c) (args .program .now) (args .saved .now) l (args .reply .now) _ _ (args .k) (args .what)
+    (ok-text .ensures .0) _ _ (empty-collection .ensures) (having-written .ensures) _ _ _ (the-write .ensures l (args .reply .now))
+    (said .ensures _ _ l)
 
 pub answer-write-spec : {M : Type 1} → statement M
 answer-write-spec =

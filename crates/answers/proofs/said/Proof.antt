@@ -1,6 +1,6 @@
 -- `answers::said` meets its contract.
 -- Assumes nothing.
-use Rattle.formats.specs.Values.{textOf}
+use Rattle.formats.specs.NumbersAndTexts.{textOf}
 use Rattle.answers.proofs.Replies.{said-done}
 use borrow.Author.Needs.{needs}
 use Rattle.answers.proofs.said.Statement.{statement}
@@ -16,7 +16,11 @@ same-length : tie.Need-same-length
 same-length c = search needs
 
 returns : tie.Need-returns
-returns c = λ p s l. said-done (c .before .before .before .before .before .before .before .args .d) (textOf (c .before .before .before .before .before .before .before .args .t)) _ (c .before .before .before .before .before .before .before .args .reply .now) _ _ (c .before .before .before .before .before .with .ensures .0) (c .before .before .before .put .ensures .0) (c .before .before .before .put .ensures .1) p s l
+returns c =
+    let args = c .before .before .before .before .before .before .before .args in
+    let with = c .before .before .before .before .before .with in
+    let put = c .before .before .before .put in
+    λ p s l. said-done (args .d) (textOf (args .t)) _ (args .reply .now) _ _ (with .ensures .0) (put .ensures .0) (put .ensures .1) p s l
 
 pub said-spec : {M : Type 1} → statement M
 said-spec = tie.close (tie.spec with-requires put-requires same-length returns)

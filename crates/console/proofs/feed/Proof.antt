@@ -10,10 +10,12 @@ use Rattle.console.proofs.feed.Statement.{statement}
 use Rattle.console.proofs.feed.Tie as tie
 
 abbrev Inv-loop : tie.InvT-loop
-Inv-loop input program₀ saved₀ log₀ reply₀ s₀ i₀ program saved log reply s i = (i ≤ length input) × (length program ≡ length program₀) × (length saved ≡ length saved₀) × (length log ≡ length log₀) × (length reply ≡ length reply₀) × Invariant s
+Inv-loop input program₀ saved₀ log₀ block₀ s₀ o₀ i₀ program saved log block s o i =
+    (i ≤ length input) × (length program ≡ length program₀) × (length saved ≡ length saved₀) × (length log ≡ length log₀)
+    × (length block ≡ length block₀) × Invariant (s .controller)
 
 abbrev μ-loop : tie.MeasureT-loop
-μ-loop input program₀ saved₀ log₀ reply₀ s₀ i₀ program saved log reply s i = length input - i
+μ-loop input program₀ saved₀ log₀ block₀ s₀ o₀ i₀ program saved log block s o i = length input - i
 
 loop-holds : tie.Need-loop-holds Inv-loop μ-loop
 loop-holds c = search needs
@@ -25,28 +27,47 @@ one-requires : tie.Need-one-requires Inv-loop μ-loop
 one-requires c κs = c .before .before .before .before .before .before .loop .inv .5
 
 same-length : tie.Need-same-length Inv-loop μ-loop
-same-length c = search needs
+same-length c =
+    let called = c .before .before .before .before .before .before .before .before .before .before in
+    let inv = called .before .before .before .before .before .before .before .loop .inv in
+    omega (arith, inv .1)
 
 same-length-2 : tie.Need-same-length-2 Inv-loop μ-loop
-same-length-2 c = search needs
+same-length-2 c =
+    let called = c .before .before .before .before .before .before .before .before .before .before in
+    let inv = called .before .before .before .before .before .before .before .loop .inv in
+    omega (arith, inv .2)
 
 same-length-3 : tie.Need-same-length-3 Inv-loop μ-loop
-same-length-3 c = search needs
+same-length-3 c =
+    let called = c .before .before .before .before .before .before .before .before .before .before in
+    let inv = called .before .before .before .before .before .before .before .loop .inv in
+    omega (arith, inv .3)
 
 same-length-4 : tie.Need-same-length-4 Inv-loop μ-loop
-same-length-4 c = search needs
+same-length-4 c =
+    let called = c .before .before .before .before .before .before .before .before .before .before in
+    let inv = called .before .before .before .before .before .before .before .loop .inv in
+    omega (arith, inv .4)
 
 returns : tie.Need-returns Inv-loop μ-loop
-returns c = c .before .before .before .before .before .before .before .before .before .before .before .one .ensures
+returns c = c .before .before .before .before .before .before .before .before .before .before .one .ensures
 
 add-i : tie.Need-add-i Inv-loop μ-loop
-add-i c = omega (arith, c .before .before .before .before .before .before .before .before .before .before .before .before .before .before .before .before .before .before .before .before .before .before .before .before .good .1 .0 .0, c .before .before .before .before .before .before .before .before .before .before .before .before .before .before .before .before .before .loop-test .taken)
+add-i c =
+    let called = c .before .before .before .before .before .before .before .before .before .before .before .before in
+    let tested = called .before .before .before .before .before .before in
+    let start = tested .before .before .before .before .before .before .before in
+    omega (arith, start .good .1 .1 .0 .0, tested .loop-test .taken)
 
 loop-less : tie.Need-loop-less Inv-loop μ-loop
 loop-less c = search needs
 
 loop-again : tie.Need-loop-again Inv-loop μ-loop
-loop-again c = (search needs, search needs, search needs, search needs, search needs, c .before .before .before .before .before .before .before .before .before .before .before .one .ensures)
+loop-again c =
+    let called = c .before .before .before .before .before .before .before .before .before .before .before .before in
+    let inv = called .before .before .before .before .before .before .before .loop .inv in
+    (search needs, omega (arith, inv .1), omega (arith, inv .2), omega (arith, inv .3), omega (arith, inv .4), called .one .ensures)
 
 same-length-5 : tie.Need-same-length-5 Inv-loop μ-loop
 same-length-5 c = search needs

@@ -2,7 +2,7 @@
 -- Assumes nothing.
 use mathlib.Core.List.{[]}
 use Rattle.controller.specs.Refusals as Calls
-use Rattle.deeds.specs.Values.{areas}
+use Rattle.deeds.specs.OnAreas.{areas}
 use Rattle.calls.proofs.Kept.{call-kept}
 use borrow.Author.Needs.{needs}
 use Rattle.console.proofs.one.Statement.{statement}
@@ -11,6 +11,9 @@ use Rattle.console.proofs.one.Tie as tie
 tick-requires : tie.Need-tick-requires
 tick-requires c κs = search needs
 
+silent-requires : tie.Need-silent-requires
+silent-requires c κs = search needs
+
 same-length : tie.Need-same-length
 same-length c = search needs
 
@@ -18,10 +21,17 @@ same-length-2 : tie.Need-same-length-2
 same-length-2 c = search needs
 
 returns : tie.Need-returns
-returns c = call-kept Calls.tick (c .before .before .before .before .before .before .before .before .before .before .before .args .c) (areas (c .before .before .before .before .before .before .before .before .before .before .before .args .program .now) [] (c .before .before .before .before .before .before .before .before .before .before .before .args .log .now) []) (c .before .before .before .tick .ensures) (c .before .before .before .before .before .before .before .before .before .before .before .pre)
+returns c =
+    let called = c .before .before .before in
+    let start = called .before .before .before .before .before .before .before .before in
+    let a = start .args in
+    rw (c .silent .ensures) (call-kept Calls.tick (a .b .controller) (areas (a .program .now) [] (a .log .now) []) (called .tick .ensures) (start .pre))
 
 press-requires : tie.Need-press-requires
 press-requires c κs = search needs
+
+silent-requires-2 : tie.Need-silent-requires-2
+silent-requires-2 c κs = search needs
 
 same-length-3 : tie.Need-same-length-3
 same-length-3 c = search needs
@@ -30,10 +40,17 @@ same-length-4 : tie.Need-same-length-4
 same-length-4 c = search needs
 
 returns-2 : tie.Need-returns-2
-returns-2 c = call-kept (Calls.press 1) (c .before .before .before .before .before .before .before .before .before .before .before .before .args .c) (areas (c .before .before .before .before .before .before .before .before .before .before .before .before .args .program .now) [] (c .before .before .before .before .before .before .before .before .before .before .before .before .args .log .now) []) (c .before .before .before .press .ensures) (c .before .before .before .before .before .before .before .before .before .before .before .before .pre)
+returns-2 c =
+    let called = c .before .before .before in
+    let start = called .before .before .before .before .before .before .before .before .before in
+    let a = start .args in
+    rw (c .silent2 .ensures) (call-kept (Calls.press 1) (a .b .controller) (areas (a .program .now) [] (a .log .now) []) (called .press .ensures) (start .pre))
 
 press-requires-2 : tie.Need-press-requires-2
 press-requires-2 c κs = search needs
+
+silent-requires-3 : tie.Need-silent-requires-3
+silent-requires-3 c κs = search needs
 
 same-length-5 : tie.Need-same-length-5
 same-length-5 c = search needs
@@ -42,7 +59,11 @@ same-length-6 : tie.Need-same-length-6
 same-length-6 c = search needs
 
 returns-3 : tie.Need-returns-3
-returns-3 c = call-kept (Calls.press 2) (c .before .before .before .before .before .before .before .before .before .before .before .before .before .args .c) (areas (c .before .before .before .before .before .before .before .before .before .before .before .before .before .args .program .now) [] (c .before .before .before .before .before .before .before .before .before .before .before .before .before .args .log .now) []) (c .before .before .before .press2 .ensures) (c .before .before .before .before .before .before .before .before .before .before .before .before .before .pre)
+returns-3 c =
+    let called = c .before .before .before in
+    let start = called .before .before .before .before .before .before .before .before .before .before in
+    let a = start .args in
+    rw (c .silent3 .ensures) (call-kept (Calls.press 2) (a .b .controller) (areas (a .program .now) [] (a .log .now) []) (called .press2 .ensures) (start .pre))
 
 sent-requires : tie.Need-sent-requires
 sent-requires c κs = search needs
@@ -67,14 +88,17 @@ one-spec =
     tie.close
     (tie.spec
     tick-requires
+    silent-requires
     same-length
     same-length-2
     returns
     press-requires
+    silent-requires-2
     same-length-3
     same-length-4
     returns-2
     press-requires-2
+    silent-requires-3
     same-length-5
     same-length-6
     returns-3

@@ -1,17 +1,23 @@
 -- `console::sent` keeps the invariant.
 -- Assumes nothing.
 use Rattle.controller.specs.Refusals as Calls
-use Rattle.deeds.specs.Values.{areas}
+use Rattle.deeds.specs.OnAreas.{areas}
 use Rattle.calls.proofs.Kept.{call-kept}
 use borrow.Author.Needs.{needs}
 use Rattle.console.proofs.sent.Statement.{statement}
 use Rattle.console.proofs.sent.Tie as tie
 
+slice-aggregate-byte : tie.Need-slice-aggregate-byte
+slice-aggregate-byte c = search needs
+
 byte-requires : tie.Need-byte-requires
 byte-requires c κs = search needs
 
-say-requires : tie.Need-say-requires
-say-requires c κs = search needs
+slice-aggregate-put-first : tie.Need-slice-aggregate-put-first
+slice-aggregate-put-first c = search needs
+
+put-first-requires : tie.Need-put-first-requires
+put-first-requires c κs = search needs
 
 same-length : tie.Need-same-length
 same-length c = search needs
@@ -26,14 +32,21 @@ same-length-4 : tie.Need-same-length-4
 same-length-4 c = search needs
 
 returns : tie.Need-returns
-returns c = call-kept (Calls.byte (c .before .before .before .before .before .before .before .before .before .before .before .before .before .before .before .before .before .before .before .before .args .x)) (c .before .before .before .before .before .before .before .before .before .before .before .before .before .before .before .before .before .before .before .before .args .c) (areas (c .before .before .before .before .before .before .before .before .before .before .before .before .before .before .before .before .before .before .before .before .args .program .now) (c .before .before .before .before .before .before .before .before .before .before .before .before .before .before .before .before .before .before .before .before .args .saved .now) (c .before .before .before .before .before .before .before .before .before .before .before .before .before .before .before .before .before .before .before .before .args .log .now) (c .before .before .before .before .before .before .before .before .before .before .before .before .before .before .before .before .before .before .before .before .args .reply .now)) (c .before .before .before .before .before .before .before .before .before .before .before .byte .ensures) (c .before .before .before .before .before .before .before .before .before .before .before .before .before .before .before .before .before .before .before .before .pre)
+returns c =
+    let earlier = c .before .before .before .before .before .before .before .before .before .before in
+    let called = earlier .before .before .before in
+    let start = called .before .before .before .before .before .before .before .before .before in
+    let a = start .args in
+    call-kept (Calls.byte (a .x)) (a .b .controller) (areas (a .program .now) (a .saved .now) (a .log .now) _) (called .byte .ensures) (start .pre)
 
 pub sent-spec : {M : Type 1} → statement M
 sent-spec =
     tie.close
     (tie.spec
+    slice-aggregate-byte
     byte-requires
-    say-requires
+    slice-aggregate-put-first
+    put-first-requires
     same-length
     same-length-2
     same-length-3

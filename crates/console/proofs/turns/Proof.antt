@@ -1,6 +1,7 @@
 -- `console::turns` is safe and ends; the measure is the number of turns left.
 -- Assumes nothing.
 use mathlib.Core.Path.{_≡_}
+use native.Mathlib.Omega.{arith}
 use lib.ListN.{length}
 use Rattle.controller.specs.Invariant.{Invariant}
 use borrow.Author.Needs.{needs}
@@ -8,10 +9,15 @@ use Rattle.console.proofs.turns.Statement.{statement}
 use Rattle.console.proofs.turns.Tie as tie
 
 abbrev Inv-loop : tie.InvT-loop
-Inv-loop program₀ saved₀ log₀ reply₀ s₀ left₀ program saved log reply s left = (length program ≡ length program₀) × (length saved ≡ length saved₀) × (length log ≡ length log₀) × (length reply ≡ length reply₀) × Invariant s
+Inv-loop program₀ saved₀ log₀ block₀ s₀ o₀ left₀ program saved log block s o left =
+    (length program ≡ length program₀) × (length saved ≡ length saved₀) × (length log ≡ length log₀) × (length block ≡ length block₀)
+    × Invariant (s .controller)
 
 abbrev μ-loop : tie.MeasureT-loop
-μ-loop program₀ saved₀ log₀ reply₀ s₀ left₀ program saved log reply s left = left
+μ-loop program₀ saved₀ log₀ block₀ s₀ o₀ left₀ program saved log block s o left = left
+
+new-requires : tie.Need-new-requires Inv-loop μ-loop
+new-requires c κs = search needs
 
 loop-holds : tie.Need-loop-holds Inv-loop μ-loop
 loop-holds c = search needs
@@ -41,7 +47,10 @@ loop-less : tie.Need-loop-less Inv-loop μ-loop
 loop-less c = search needs
 
 loop-again : tie.Need-loop-again Inv-loop μ-loop
-loop-again c = (search needs, search needs, search needs, search needs, c .before .before .before .before .before .before .before .before .before .before .before .turn .ensures)
+loop-again c =
+    let called = c .before .before .before .before .before .before .before .before .before .before .before .before in
+    let inv = called .before .before .before .before .before .before .loop .inv in
+    (omega (arith, inv .0), omega (arith, inv .1), omega (arith, inv .2), omega (arith, inv .3), called .turn .ensures)
 
 same-length-5 : tie.Need-same-length-5 Inv-loop μ-loop
 same-length-5 c = search needs
@@ -64,6 +73,7 @@ turns-spec =
     (tie.spec
     Inv-loop
     μ-loop
+    new-requires
     loop-holds
     turn-requires
     same-length

@@ -4,13 +4,10 @@ use mathlib.Core.Path.{sym, _∙_}
 use borrow.Author.Tests.{eq-eqb, ne-eqb, le-leb, lt-leb}
 use Rattle.formats.specs.Checks.{_>>=_, _>>_, _orElse_}
 use Rattle.formats.specs.Digits.{dIn}
-use Rattle.formats.proofs.Answers.{is-number, no-number}
+use Rattle.formats.proofs.NumbersRead.{is-number, no-number}
 use borrow.Author.Needs.{needs}
 use Rattle.formats.proofs.d_in.Statement.{statement}
 use Rattle.formats.proofs.d_in.Tie as tie
-use Rattle.formats.proofs.d_in.Reads as reads
-use Rattle.formats.proofs.d_in.Lts as lts
-use Rattle.formats.proofs.number_in.Reads as number-in-reads
 
 returns : tie.Need-returns
 unfolding dIn _>>_ _orElse_
@@ -34,8 +31,11 @@ returns-2 c =
 returns-3 : tie.Need-returns-3
 unfolding dIn _>>=_ _>>_ _orElse_
 returns-3 c =
-    let e = sym (c .before .before .v .given .1) ∙ c .before .before .before .before .number-in .ensures in
-    simp (eq-eqb _ _ (c .before .before .before .before .before .if1 .left), is-number 10 3 _ _ e, lt-leb _ _ (c .if2 .taken))
+    let if1 = c .before .before .before .before .before .if1 in
+    let number-in = c .before .before .before .before .number-in in
+    let v = c .before .before .v in
+    let e = sym (v .given .1) ∙ number-in .ensures in
+    simp (eq-eqb _ _ (if1 .left), is-number 10 3 _ _ e, lt-leb _ _ (c .if2 .taken))
 
 cast-t6 : tie.Need-cast-t6
 cast-t6 c = search needs
@@ -43,8 +43,11 @@ cast-t6 c = search needs
 returns-4 : tie.Need-returns-4
 unfolding dIn _>>=_ _>>_ _orElse_
 returns-4 c =
-    let e = sym (c .before .before .v .given .1) ∙ c .before .before .before .before .number-in .ensures in
-    simp (eq-eqb _ _ (c .before .before .before .before .before .if1 .left), is-number 10 3 _ _ e, le-leb _ _ (c .if2 .left))
+    let if1 = c .before .before .before .before .before .if1 in
+    let number-in = c .before .before .before .before .number-in in
+    let v = c .before .before .v in
+    let e = sym (v .given .1) ∙ number-in .ensures in
+    simp (eq-eqb _ _ (if1 .left), is-number 10 3 _ _ e, le-leb _ _ (c .if2 .left))
 
 pub d-in-spec : {M : Type 1} → statement M
 d-in-spec =

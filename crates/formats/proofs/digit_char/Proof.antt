@@ -4,8 +4,6 @@ use borrow.Author.Tests.{lt-ltb, le-ltb}
 use borrow.Author.Needs.{needs}
 use Rattle.formats.proofs.digit_char.Statement.{statement}
 use Rattle.formats.proofs.digit_char.Tie as tie
-use Rattle.formats.proofs.digit_char.Reads as reads
-use Rattle.formats.proofs.digit_char.Lts as lts
 
 add-result : tie.Need-add-result
 add-result c = search needs

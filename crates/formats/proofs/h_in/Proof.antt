@@ -6,13 +6,10 @@ use Rattle.formats.specs.Checks.{_>>_, _orElse_}
 use Prim.Native.Nat.{_^_, _<_}
 use native.Mathlib.Nat.{mod-eq-of-lt}
 use Rattle.formats.specs.Digits.{hIn}
-use Rattle.formats.proofs.Answers.{is-number, no-number, number-fits}
+use Rattle.formats.proofs.NumbersRead.{is-number, no-number, number-fits}
 use borrow.Author.Needs.{needs}
 use Rattle.formats.proofs.h_in.Statement.{statement}
 use Rattle.formats.proofs.h_in.Tie as tie
-use Rattle.formats.proofs.h_in.Reads as reads
-use Rattle.formats.proofs.h_in.Lts as lts
-use Rattle.formats.proofs.number_in.Reads as number-in-reads
 
 returns : tie.Need-returns
 unfolding hIn _>>_ _orElse_

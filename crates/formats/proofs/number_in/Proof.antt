@@ -32,15 +32,17 @@ cast-d c = search needs
 returns : tie.Need-returns Inv-loop μ-loop
 returns c =
     let l = c .before .before .before .before .loop in
-    read-bad _ _ _ _ _ (c .before .before .before .loop-test .taken) (l .inv .1) (c .before .digit-value .ensures) (c .if1 .taken)
+    let loop-test = c .before .before .before .loop-test in
+    read-bad _ _ _ _ _ (loop-test .taken) (l .inv .1) (c .before .digit-value .ensures) (c .if1 .taken)
 
 -- the number with one digit more fits
 fits : (c : lts.Else1 (digit-value-reads.Asked, digit-value-reads.Learnt) reads.Pre reads.Post Inv-loop μ-loop)
     → c .before .before .before .before .loop .v * c .before .before .before .before .before .before .args .base + c .before .digit-value .result < 4294967296
 fits c =
-    let l = c .before .before .before .before .loop in
     let q = c .before .before .before .before .before .before .pre in
-    more-fits-u32 _ _ _ _ _ (q .2) (q .1) (q .0) (c .before .before .before .loop-test .taken) (l .inv .1) (c .before .digit-value .ensures) (c .if1 .left)
+    let l = c .before .before .before .before .loop in
+    let loop-test = c .before .before .before .loop-test in
+    more-fits-u32 _ _ _ _ _ (q .2) (q .1) (q .0) (loop-test .taken) (l .inv .1) (c .before .digit-value .ensures) (c .if1 .left)
 
 mul-v : tie.Need-mul-v Inv-loop μ-loop
 mul-v c = omega (arith, fits c)
@@ -56,8 +58,11 @@ loop-less c = search needs
 
 loop-again : tie.Need-loop-again Inv-loop μ-loop
 loop-again c =
-    let l = c .before .before .before .before .loop in
-    (search needs, read-more _ _ _ _ _ (c .before .before .before .loop-test .taken) (l .inv .1) (c .before .digit-value .ensures) (c .if1 .left))
+    let l = c .before .before .before .before .loop in (
+      search needs,
+      let loop-test = c .before .before .before .loop-test in
+          read-more _ _ _ _ _ (loop-test .taken) (l .inv .1) (c .before .digit-value .ensures) (c .if1 .left),
+    )
 
 returns-2 : tie.Need-returns-2 Inv-loop μ-loop
 returns-2 c = read-all _ _ _ _ (search needs) (c .before .loop .inv .1)

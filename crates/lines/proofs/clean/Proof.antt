@@ -30,7 +30,14 @@ loop-less : tie.Need-loop-less Inv-loop μ-loop
 loop-less c = search needs
 
 loop-again : tie.Need-loop-again Inv-loop μ-loop
-loop-again c = (search needs, search needs, c .before .before .put-line .ensures ∙ rw (c .before .before .before .line-at .ensures, c .before .before .before .before .before .before .loop .inv .2) (cleaning-goes-on _ _ _))
+loop-again c = (
+  search needs,
+  search needs,
+  let loop = c .before .before .before .before .before .before .loop in
+      let line-at = c .before .before .before .line-at in
+      let put-line = c .before .before .put-line in
+      put-line .ensures ∙ rw (line-at .ensures, loop .inv .2) (cleaning-goes-on _ _ _),
+)
 
 same-length : tie.Need-same-length Inv-loop μ-loop
 same-length c = search needs

@@ -17,7 +17,9 @@ shared-slice-read-if1 : tie.Need-shared-slice-read-if1
 shared-slice-read-if1 c = search needs
 
 returns : tie.Need-returns
-returns c = sym (by-the-second (c .before .before .before .args .c) (c .before .before .before .args .p .now) (c .before .before .before .args .i) (c .if1 .taken))
+returns c =
+    let args = c .before .before .before .args in
+    sym (by-the-second (args .c) (args .p .now) (args .i) (c .if1 .taken))
 
 mul-if2 : tie.Need-mul-if2
 mul-if2 c = search needs
@@ -26,7 +28,9 @@ shared-slice-read-if2 : tie.Need-shared-slice-read-if2
 shared-slice-read-if2 c = search needs
 
 returns-2 : tie.Need-returns-2
-returns-2 c = sym (by-the-first (c .before .before .before .before .before .args .c) (c .before .before .before .before .before .args .p .now) (c .before .before .before .before .before .args .i) (c .if2 .taken))
+returns-2 c =
+    let args = c .before .before .before .before .before .args in
+    sym (by-the-first (args .c) (args .p .now) (args .i) (c .if2 .taken))
 
 line-at-requires : tie.Need-line-at-requires
 line-at-requires c κs = search needs
@@ -35,7 +39,9 @@ is-next-of-requires : tie.Need-is-next-of-requires
 is-next-of-requires c κs = search needs
 
 returns-3 : tie.Need-returns-3
-returns-3 c = c .is-next-of .ensures ∙ ap (λ l. isNextOf (c .before .before .before .before .before .before .before .args .c) l) (c .before .line-at .ensures)
+returns-3 c =
+    let args = c .before .before .before .before .before .before .before .args in
+    c .is-next-of .ensures ∙ ap (λ l. isNextOf (args .c) l) (c .before .line-at .ensures)
 
 pub is-next-at-spec : {M : Type 1} → statement M
 is-next-at-spec =

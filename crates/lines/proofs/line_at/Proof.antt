@@ -26,7 +26,9 @@ read-line-requires c κs = search needs
 
 returns : tie.Need-returns
 unfolding lineAt
-returns c = c .read-line .ensures ∙ ap readLine (rest-of (8 * c .before .before .before .args .k) (c .before .before .before .args .p .now))
+returns c =
+    let args = c .before .before .before .args in
+    c .read-line .ensures ∙ ap readLine (rest-of (8 * args .k) (args .p .now))
 
 pub line-at-spec : {M : Type 1} → statement M
 line-at-spec =

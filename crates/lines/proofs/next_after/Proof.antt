@@ -27,7 +27,10 @@ cast-result : tie.Need-cast-result Inv-loop μ-loop
 cast-result c = search needs
 
 returns : tie.Need-returns Inv-loop μ-loop
-returns c = sym (c .before .before .before .loop .inv .1 ∙ search-found _ _ _ (c .before .before .loop-test .taken) (sym (c .before .is-next-at .ensures) ∙ c .if1 .taken))
+returns c =
+    let loop = c .before .before .before .loop in
+    let loop-test = c .before .before .loop-test in
+    sym (loop .inv .1 ∙ search-found _ _ _ (loop-test .taken) (sym (c .before .is-next-at .ensures) ∙ c .if1 .taken))
 
 add-i-2 : tie.Need-add-i-2 Inv-loop μ-loop
 add-i-2 c = search needs
@@ -36,7 +39,12 @@ loop-less : tie.Need-loop-less Inv-loop μ-loop
 loop-less c = search needs
 
 loop-again : tie.Need-loop-again Inv-loop μ-loop
-loop-again c = (search needs, c .before .before .before .loop .inv .1 ∙ search-on _ _ _ (c .before .before .loop-test .taken) (sym (c .before .is-next-at .ensures) ∙ c .if1 .left))
+loop-again c = (
+  search needs,
+  let loop = c .before .before .before .loop in
+      let loop-test = c .before .before .loop-test in
+      loop .inv .1 ∙ search-on _ _ _ (loop-test .taken) (sym (c .before .is-next-at .ensures) ∙ c .if1 .left),
+)
 
 returns-2 : tie.Need-returns-2 Inv-loop μ-loop
 returns-2 c = sym (c .before .loop .inv .1 ∙ search-ends _ _ _ (search needs))

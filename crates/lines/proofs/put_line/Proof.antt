@@ -4,7 +4,7 @@ use Prim.Native.Nat.{_*_}
 use mathlib.Core.Path.{_∙_}
 use borrow.Author.Needs.{needs}
 use Rattle.formats.proofs.Parts.{given-back}
-use Rattle.lines.specs.Program.{putLine}
+use Rattle.formats.specs.Bytes.{placed}
 use Rattle.lines.proofs.put_line.Statement.{statement}
 use Rattle.lines.proofs.put_line.Tie as tie
 
@@ -33,8 +33,11 @@ same-length : tie.Need-same-length
 same-length c = search needs
 
 returns : tie.Need-returns
-unfolding putLine
-returns c = let a = c .before .before .before .before .before .args in given-back (8 * a .k) 8 (a .p .now) (c .before .before .write-line .last .0) ∙ simp (c .before .before .write-line .ensures)
+unfolding placed
+returns c =
+    let a = c .before .before .before .before .before .args in
+    let write-line = c .before .before .write-line in
+    given-back (8 * a .k) 8 (a .p .now) (write-line .last .0) ∙ simp (write-line .ensures)
 
 pub put-line-spec : {M : Type 1} → statement M
 put-line-spec =

@@ -1,4 +1,4 @@
--- `lines::write_line` meets its contract: a part of eight bytes that is written written-over whole is what was written.
+-- `lines::write_line` meets its contract: a part of eight bytes that is written over whole is what was written.
 -- Assumes nothing.
 use mathlib.Core.Path.{_∙_}
 use lib.ListN.{length-set}
@@ -64,7 +64,10 @@ same-length : tie.Need-same-length
 same-length c = simp length-set
 
 returns : tie.Need-returns
-returns c = written-over (eightOf (c .bytes-of .result)) (c .before .before .args .to .now) (c .before .before .pre) ∙ eight-bytes _ _ (c .bytes-of .ensures)
+returns c =
+    let args = c .before .before .args in
+    let pre = c .before .before .pre in
+    written-over (eightOf (c .bytes-of .result)) (args .to .now) pre ∙ eight-bytes _ _ (c .bytes-of .ensures)
 
 pub write-line-spec : {M : Type 1} → statement M
 write-line-spec =

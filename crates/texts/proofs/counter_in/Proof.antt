@@ -3,14 +3,11 @@
 use mathlib.Core.Path.{sym, _∙_}
 use borrow.Author.Tests.{le-leb, lt-leb}
 use Rattle.formats.specs.Checks.{_>>=_, _>>_, _orElse_}
-use Rattle.formats.proofs.Answers.{is-number, no-number}
+use Rattle.formats.proofs.NumbersRead.{is-number, no-number}
 use Rattle.texts.specs.Text.{counterIn}
 use borrow.Author.Needs.{needs}
 use Rattle.texts.proofs.counter_in.Statement.{statement}
 use Rattle.texts.proofs.counter_in.Tie as tie
-use Rattle.texts.proofs.counter_in.Reads as reads
-use Rattle.texts.proofs.counter_in.Lts as lts
-use Rattle.formats.proofs.number_in.Reads as number-in-reads
 
 number-in-requires : tie.Need-number-in-requires
 number-in-requires c κs = search needs
@@ -27,15 +24,24 @@ returns c = simp (no-number 10 3 _ (sym (c .enum-told .given .1) ∙ c .before .
 
 returns-2 : tie.Need-returns-2
 unfolding counterIn _>>=_ _>>_ _orElse_
-returns-2 c = simp (is-number 10 3 _ _ (sym (c .before .before .c .given .1) ∙ c .before .before .before .before .number-in .ensures), lt-leb _ _ (c .if1 .taken))
+returns-2 c =
+    let number-in = c .before .before .before .before .number-in in
+    let the-c = c .before .before .c in
+    simp (is-number 10 3 _ _ (sym (the-c .given .1) ∙ number-in .ensures), lt-leb _ _ (c .if1 .taken))
 
 returns-3 : tie.Need-returns-3
 unfolding counterIn _>>=_ _>>_ _orElse_
-returns-3 c = simp (is-number 10 3 _ _ (sym (c .before .before .before .c .given .1) ∙ c .before .before .before .before .before .number-in .ensures), le-leb _ _ (c .before .if1 .left), lt-leb _ _ (c .if2 .taken))
+returns-3 c =
+    let number-in = c .before .before .before .before .before .number-in in
+    let the-c = c .before .before .before .c in
+    simp (is-number 10 3 _ _ (sym (the-c .given .1) ∙ number-in .ensures), le-leb _ _ (c .before .if1 .left), lt-leb _ _ (c .if2 .taken))
 
 returns-4 : tie.Need-returns-4
 unfolding counterIn _>>=_ _>>_ _orElse_
-returns-4 c = simp (is-number 10 3 _ _ (sym (c .before .before .before .c .given .1) ∙ c .before .before .before .before .before .number-in .ensures), le-leb _ _ (c .before .if1 .left), le-leb _ _ (c .if2 .left))
+returns-4 c =
+    let number-in = c .before .before .before .before .before .number-in in
+    let the-c = c .before .before .before .c in
+    simp (is-number 10 3 _ _ (sym (the-c .given .1) ∙ number-in .ensures), le-leb _ _ (c .before .if1 .left), le-leb _ _ (c .if2 .left))
 
 pub counter-in-spec : {M : Type 1} → statement M
 counter-in-spec =

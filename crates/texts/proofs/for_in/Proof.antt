@@ -2,16 +2,12 @@
 -- Assumes nothing.
 use mathlib.Core.Path.{sym, _∙_}
 use Rattle.formats.specs.Checks.{_>>=_, _>>_, _orElse_}
-use Rattle.formats.proofs.Answers.{is-number, no-number}
+use Rattle.formats.proofs.NumbersRead.{is-number, no-number}
 use Rattle.texts.specs.Text.{forIn}
-use Rattle.texts.proofs.Answers.{time-fits, is-counter, no-counter, counter-fits}
+use Rattle.texts.proofs.LinesRead.{time-fits, is-counter, no-counter, counter-fits}
 use borrow.Author.Needs.{needs}
 use Rattle.texts.proofs.for_in.Statement.{statement}
 use Rattle.texts.proofs.for_in.Tie as tie
-use Rattle.texts.proofs.for_in.Reads as reads
-use Rattle.texts.proofs.for_in.Lts as lts
-use Rattle.formats.proofs.number_in.Reads as number-in-reads
-use Rattle.texts.proofs.counter_in.Reads as counter-in-reads
 
 sub-counter-in : tie.Need-sub-counter-in
 sub-counter-in c = search needs
@@ -55,7 +51,11 @@ enum-told-2 c = search needs
 
 returns-2 : tie.Need-returns-2
 unfolding forIn _>>=_ _>>_ _orElse_
-returns-2 c = simp (is-counter _ _ (sym (c .before .before .before .before .before .counter .given .1) ∙ c .before .before .before .before .before .before .before .counter-in .ensures), no-number 10 3 _ (sym (c .enum-told2 .given .1) ∙ c .before .before .number-in .ensures))
+returns-2 c =
+    let counter-in = c .before .before .before .before .before .before .before .counter-in in
+    let counter = c .before .before .before .before .before .counter in
+    let number-in = c .before .before .number-in in
+    simp (is-counter _ _ (sym (counter .given .1) ∙ counter-in .ensures), no-number 10 3 _ (sym (c .enum-told2 .given .1) ∙ number-in .ensures))
 
 cast-counter : tie.Need-cast-counter
 cast-counter c = search needs
@@ -66,9 +66,12 @@ cast-count c = search needs
 returns-3 : tie.Need-returns-3
 unfolding forIn _>>=_ _>>_ _orElse_
 returns-3 c =
+    let counter-in = c .before .before .before .before .before .before .before .before .counter-in in
+    let counter = c .before .before .before .before .before .before .counter in
+    let number-in = c .before .before .before .number-in in
     let cs = c .before .before .before .before .before .before .before .before .before .before .before .args .cs .now in
-    let k = (sym (c .before .before .before .before .before .before .counter .given .1) ∙ c .before .before .before .before .before .before .before .before .counter-in .ensures) in
-    let e = (sym (c .before .count .given .1) ∙ c .before .before .before .number-in .ensures) in
+    let k = (sym (counter .given .1) ∙ counter-in .ensures) in
+    let e = (sym (c .before .count .given .1) ∙ number-in .ensures) in
     simp (is-counter _ _ k, counter-fits _ _ k, is-number 10 3 _ _ e, time-fits 2 _ cs (search needs) e)
 
 pub for-in-spec : {M : Type 1} → statement M

@@ -5,11 +5,6 @@ use Rattle.texts.specs.Text.{lineText}
 use borrow.Author.Needs.{needs}
 use Rattle.texts.proofs.line_text.Statement.{statement}
 use Rattle.texts.proofs.line_text.Tie as tie
-use Rattle.texts.proofs.line_text.Reads as reads
-use Rattle.texts.proofs.line_text.Lts as lts
-use Rattle.formats.proofs.Text.new.Reads as new-reads
-use Rattle.formats.proofs.Text.shown.Reads as shown-reads
-use Rattle.formats.proofs.Text.with.Reads as with-reads
 
 enum-known-l : tie.Need-enum-known-l
 enum-known-l c = search needs
@@ -73,15 +68,34 @@ shown-requires-5 c κs = search needs
 
 returns : tie.Need-returns
 unfolding lineText text
-returns c = (simp (c .before .before .before .before .before .before .before .l .given .1, c .shown2 .ensures .0, c .before .shown .ensures .0, c .before .before .with3 .ensures .0, c .before .before .before .with2 .ensures .0, c .before .before .before .before .with .ensures .0, c .before .before .before .before .before .new .ensures .0), search needs)
+returns c = (
+  let l = c .before .before .before .before .before .before .before .l in
+      let new = c .before .before .before .before .before .new in
+      let with = c .before .before .before .before .with in
+      let with2 = c .before .before .before .with2 in
+      let with3 = c .before .before .with3 in
+      simp (l .given .1, c .shown2 .ensures .0, c .before .shown .ensures .0, with3 .ensures .0, with2 .ensures .0, with .ensures .0, new .ensures .0),
+  search needs,
+)
 
 returns-2 : tie.Need-returns-2
 unfolding lineText text
-returns-2 c = (simp (c .before .before .before .before .before .l2 .given .1, c .shown4 .ensures .0, c .before .shown3 .ensures .0, c .before .before .with4 .ensures .0, c .before .before .before .new2 .ensures .0), search needs)
+returns-2 c = (
+  let l2 = c .before .before .before .before .before .l2 in
+      let new2 = c .before .before .before .new2 in
+      let with4 = c .before .before .with4 in
+      simp (l2 .given .1, c .shown4 .ensures .0, c .before .shown3 .ensures .0, with4 .ensures .0, new2 .ensures .0),
+  search needs,
+)
 
 returns-3 : tie.Need-returns-3
 unfolding lineText text
-returns-3 c = (simp (c .before .before .before .before .l3 .given .1, c .shown5 .ensures .0, c .before .with5 .ensures .0, c .before .before .new3 .ensures .0), search needs)
+returns-3 c = (
+  let l3 = c .before .before .before .before .l3 in
+      let new3 = c .before .before .new3 in
+      simp (l3 .given .1, c .shown5 .ensures .0, c .before .with5 .ensures .0, new3 .ensures .0),
+  search needs,
+)
 
 pub line-text-spec : {M : Type 1} → statement M
 line-text-spec =

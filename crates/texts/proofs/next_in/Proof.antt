@@ -3,13 +3,10 @@
 use mathlib.Core.Path.{sym, _∙_}
 use Rattle.formats.specs.Checks.{_>>=_, _>>_, _orElse_}
 use Rattle.texts.specs.Text.{nextIn}
-use Rattle.texts.proofs.Answers.{is-counter, no-counter, counter-fits}
+use Rattle.texts.proofs.LinesRead.{is-counter, no-counter, counter-fits}
 use borrow.Author.Needs.{needs}
 use Rattle.texts.proofs.next_in.Statement.{statement}
 use Rattle.texts.proofs.next_in.Tie as tie
-use Rattle.texts.proofs.next_in.Reads as reads
-use Rattle.texts.proofs.next_in.Lts as lts
-use Rattle.texts.proofs.counter_in.Reads as counter-in-reads
 
 sub-counter-in : tie.Need-sub-counter-in
 sub-counter-in c = search needs

@@ -3,15 +3,12 @@
 use mathlib.Core.Path.{sym, _∙_}
 use borrow.Author.Tests.{eq-eqb, ne-eqb}
 use Rattle.formats.specs.Checks.{_>>=_, _>>_, _orElse_}
-use Rattle.formats.proofs.Answers.{is-number, no-number}
+use Rattle.formats.proofs.NumbersRead.{is-number, no-number}
 use Rattle.texts.specs.Text.{stateIn}
-use Rattle.texts.proofs.Answers.{time-fits}
+use Rattle.texts.proofs.LinesRead.{time-fits}
 use borrow.Author.Needs.{needs}
 use Rattle.texts.proofs.state_in.Statement.{statement}
 use Rattle.texts.proofs.state_in.Tie as tie
-use Rattle.texts.proofs.state_in.Reads as reads
-use Rattle.texts.proofs.state_in.Lts as lts
-use Rattle.formats.proofs.number_in.Reads as number-in-reads
 
 sub-number-in : tie.Need-sub-number-in
 sub-number-in c = search needs
@@ -37,7 +34,10 @@ returns c = simp (no-number 10 3 _ (sym (c .enum-told .given .1) ∙ c .before .
 
 returns-2 : tie.Need-returns-2
 unfolding stateIn _>>=_ _>>_ _orElse_
-returns-2 c = simp (is-number 10 3 _ _ (sym (c .before .before .reserved .given .1) ∙ c .before .before .before .before .number-in .ensures), ne-eqb _ _ (c .if1 .taken))
+returns-2 c =
+    let number-in = c .before .before .before .before .number-in in
+    let reserved = c .before .before .reserved in
+    simp (is-number 10 3 _ _ (sym (reserved .given .1) ∙ number-in .ensures), ne-eqb _ _ (c .if1 .taken))
 
 sub-number-in-2 : tie.Need-sub-number-in-2
 sub-number-in-2 c = search needs
@@ -59,7 +59,16 @@ enum-told-2 c = search needs
 
 returns-3 : tie.Need-returns-3
 unfolding stateIn _>>=_ _>>_ _orElse_
-returns-3 c = simp (is-number 10 3 _ _ (sym (c .before .before .before .before .before .before .reserved .given .1) ∙ c .before .before .before .before .before .before .before .before .number-in .ensures), eq-eqb _ _ (c .before .before .before .before .if1 .left), no-number 16 3 _ (sym (c .enum-told2 .given .1) ∙ c .before .before .number-in2 .ensures))
+returns-3 c =
+    let number-in = c .before .before .before .before .before .before .before .before .number-in in
+    let reserved = c .before .before .before .before .before .before .reserved in
+    let if1 = c .before .before .before .before .if1 in
+    let number-in2 = c .before .before .number-in2 in
+    simp (
+      is-number 10 3 _ _ (sym (reserved .given .1) ∙ number-in .ensures),
+      eq-eqb _ _ (if1 .left),
+      no-number 16 3 _ (sym (c .enum-told2 .given .1) ∙ number-in2 .ensures),
+    )
 
 sub-number-in-3 : tie.Need-sub-number-in-3
 sub-number-in-3 c = search needs
@@ -81,7 +90,20 @@ enum-told-3 c = search needs
 
 returns-4 : tie.Need-returns-4
 unfolding stateIn _>>=_ _>>_ _orElse_
-returns-4 c = simp (is-number 10 3 _ _ (sym (c .before .before .before .before .before .before .before .before .before .before .before .reserved .given .1) ∙ c .before .before .before .before .before .before .before .before .before .before .before .before .before .number-in .ensures), eq-eqb _ _ (c .before .before .before .before .before .before .before .before .before .if1 .left), is-number 16 3 _ _ (sym (c .before .before .before .before .before .outputs .given .1) ∙ c .before .before .before .before .before .before .before .number-in2 .ensures), no-number 10 3 _ (sym (c .enum-told3 .given .1) ∙ c .before .before .number-in3 .ensures))
+returns-4 c =
+    let earlier = c .before .before .before .before .before .before .before .before .before .before in
+    let number-in = earlier .before .before .before .number-in in
+    let reserved = c .before .before .before .before .before .before .before .before .before .before .before .reserved in
+    let if1 = c .before .before .before .before .before .before .before .before .before .if1 in
+    let number-in2 = c .before .before .before .before .before .before .before .number-in2 in
+    let outputs = c .before .before .before .before .before .outputs in
+    let number-in3 = c .before .before .number-in3 in
+    simp (
+      is-number 10 3 _ _ (sym (reserved .given .1) ∙ number-in .ensures),
+      eq-eqb _ _ (if1 .left),
+      is-number 16 3 _ _ (sym (outputs .given .1) ∙ number-in2 .ensures),
+      no-number 10 3 _ (sym (c .enum-told3 .given .1) ∙ number-in3 .ensures),
+    )
 
 cast-time : tie.Need-cast-time
 cast-time c = search needs
@@ -89,9 +111,23 @@ cast-time c = search needs
 returns-5 : tie.Need-returns-5
 unfolding stateIn _>>=_ _>>_ _orElse_
 returns-5 c =
-    let cs = c .before .before .before .before .before .before .before .before .before .before .before .before .before .before .before .before .before .args .cs .now in
-    let e = (sym (c .before .time .given .1) ∙ c .before .before .before .number-in3 .ensures) in
-    simp (is-number 10 3 _ _ (sym (c .before .before .before .before .before .before .before .before .before .before .before .before .reserved .given .1) ∙ c .before .before .before .before .before .before .before .before .before .before .before .before .before .before .number-in .ensures), eq-eqb _ _ (c .before .before .before .before .before .before .before .before .before .before .if1 .left), is-number 16 3 _ _ (sym (c .before .before .before .before .before .before .outputs .given .1) ∙ c .before .before .before .before .before .before .before .before .number-in2 .ensures), is-number 10 3 _ _ e, time-fits 11 _ cs (search needs) e)
+    let earlier = c .before .before .before .before .before .before .before .before .before .before in
+    let args = earlier .before .before .before .before .before .before .before .args in
+    let number-in = earlier .before .before .before .before .number-in in
+    let reserved = c .before .before .before .before .before .before .before .before .before .before .before .before .reserved in
+    let if1 = c .before .before .before .before .before .before .before .before .before .before .if1 in
+    let number-in2 = c .before .before .before .before .before .before .before .before .number-in2 in
+    let outputs = c .before .before .before .before .before .before .outputs in
+    let number-in3 = c .before .before .before .number-in3 in
+    let cs = args .cs .now in
+    let e = (sym (c .before .time .given .1) ∙ number-in3 .ensures) in
+    simp (
+      is-number 10 3 _ _ (sym (reserved .given .1) ∙ number-in .ensures),
+      eq-eqb _ _ (if1 .left),
+      is-number 16 3 _ _ (sym (outputs .given .1) ∙ number-in2 .ensures),
+      is-number 10 3 _ _ e,
+      time-fits 11 _ cs (search needs) e,
+    )
 
 pub state-in-spec : {M : Type 1} → statement M
 state-in-spec =

@@ -1,13 +1,21 @@
--- `trials::main` is safe: the state of a refused power-on keeps the invariant.
+-- `trials::main` is safe: a refused power-on gives the invariant that the calls require.
 -- Assumes nothing.
-use Rattle.controller.specs.Controller.{fresh}
-use Rattle.controller.proofs.Invariant.{fresh-invariant}
+use Rattle.calls.proofs.Kept.{power-on-gives}
 use borrow.Author.Needs.{needs}
 use Rattle.trials.proofs.main.Statement.{statement}
 use Rattle.trials.proofs.main.Tie as tie
 
-fresh-requires : tie.Need-fresh-requires
-fresh-requires c κs = search needs
+slice-aggregate-power-on : tie.Need-slice-aggregate-power-on
+slice-aggregate-power-on c = search needs
+
+slice-aggregate-power-on-2 : tie.Need-slice-aggregate-power-on-2
+slice-aggregate-power-on-2 c = search needs
+
+slice-aggregate-power-on-3 : tie.Need-slice-aggregate-power-on-3
+slice-aggregate-power-on-3 c = search needs
+
+power-on-requires : tie.Need-power-on-requires
+power-on-requires c κs = search needs
 
 slice-aggregate-turns : tie.Need-slice-aggregate-turns
 slice-aggregate-turns c = search needs
@@ -21,8 +29,13 @@ slice-aggregate-turns-3 c = search needs
 slice-aggregate-turns-4 : tie.Need-slice-aggregate-turns-4
 slice-aggregate-turns-4 c = search needs
 
+slice-aggregate-turns-5 : tie.Need-slice-aggregate-turns-5
+slice-aggregate-turns-5 c = search needs
+
 turns-requires : tie.Need-turns-requires
-turns-requires c κs = (rw (c .before .before .before .before .fresh .ensures) (fresh-invariant 0), (search needs, search needs, search needs, search needs))
+turns-requires c κs =
+    let kept = power-on-gives _ (c .before .before .before .before .before .before .before .power-on .ensures) in
+    (kept, (search needs, search needs, search needs, search needs))
 
 returns : tie.Need-returns
 returns c = search needs
@@ -31,10 +44,14 @@ pub main-spec : {M : Type 1} → statement M
 main-spec =
     tie.close
     (tie.spec
-    fresh-requires
+    slice-aggregate-power-on
+    slice-aggregate-power-on-2
+    slice-aggregate-power-on-3
+    power-on-requires
     slice-aggregate-turns
     slice-aggregate-turns-2
     slice-aggregate-turns-3
     slice-aggregate-turns-4
+    slice-aggregate-turns-5
     turns-requires
     returns)

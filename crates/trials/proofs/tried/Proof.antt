@@ -2,7 +2,7 @@
 -- Assumes nothing.
 use mathlib.Core.List.{[]}
 use Rattle.controller.specs.Refusals as Calls
-use Rattle.deeds.specs.Values.{areas}
+use Rattle.deeds.specs.OnAreas.{areas}
 use Rattle.calls.proofs.Kept.{call-kept, power-on-gives}
 use borrow.Author.Needs.{needs}
 use Rattle.trials.proofs.tried.Statement.{statement}
@@ -21,7 +21,10 @@ same-length-3 : tie.Need-same-length-3
 same-length-3 c = search needs
 
 returns : tie.Need-returns
-returns c = power-on-gives (areas (c .before .before .before .before .before .before .before .before .before .before .before .args .program .now) (c .before .before .before .before .before .before .before .before .before .before .before .args .saved .now) (c .before .before .before .before .before .before .before .before .before .before .before .args .log .now) []) (c .before .before .power-on .ensures)
+returns c =
+    let called = c .before .before in
+    let a = called .before .before .before .before .before .before .before .before .before .args in
+    power-on-gives (areas (a .program .now) (a .saved .now) (a .log .now) []) (called .power-on .ensures)
 
 byte-requires : tie.Need-byte-requires
 byte-requires c κs = search needs
@@ -39,7 +42,11 @@ same-length-7 : tie.Need-same-length-7
 same-length-7 c = search needs
 
 returns-2 : tie.Need-returns-2
-returns-2 c = call-kept (Calls.byte (c .before .before .before .before .before .before .before .before .before .before .before .before .before .before .before .before .before .before .before .args .x)) (c .before .before .before .before .before .before .before .before .before .before .before .before .before .before .before .before .before .before .before .args .c) (areas (c .before .before .before .before .before .before .before .before .before .before .before .before .before .before .before .before .before .before .before .args .program .now) (c .before .before .before .before .before .before .before .before .before .before .before .before .before .before .before .before .before .before .before .args .saved .now) (c .before .before .before .before .before .before .before .before .before .before .before .before .before .before .before .before .before .before .before .args .log .now) (c .before .before .before .before .before .before .before .before .before .before .before .before .before .before .before .before .before .before .before .args .out .now)) (c .before .before .before .before .before .before .before .before .byte .ensures) (c .before .before .before .before .before .before .before .before .before .before .before .before .before .before .before .before .before .before .before .pre)
+returns-2 c =
+    let called = c .before .before .before .before .before .before .before .before in
+    let start = called .before .before .before .before .before .before .before .before .before .before .before in
+    let a = start .args in
+    call-kept (Calls.byte (a .x)) (a .b .controller) (areas (a .program .now) (a .saved .now) (a .log .now) (a .out .now)) (called .byte .ensures) (start .pre)
 
 tick-requires : tie.Need-tick-requires
 tick-requires c κs = search needs
@@ -51,7 +58,11 @@ same-length-9 : tie.Need-same-length-9
 same-length-9 c = search needs
 
 returns-3 : tie.Need-returns-3
-returns-3 c = call-kept Calls.tick (c .before .before .before .before .before .before .before .before .before .before .before .before .args .c) (areas (c .before .before .before .before .before .before .before .before .before .before .before .before .args .program .now) [] (c .before .before .before .before .before .before .before .before .before .before .before .before .args .log .now) []) (c .before .before .tick .ensures) (c .before .before .before .before .before .before .before .before .before .before .before .before .pre)
+returns-3 c =
+    let called = c .before .before in
+    let start = called .before .before .before .before .before .before .before .before .before .before in
+    let a = start .args in
+    call-kept Calls.tick (a .b .controller) (areas (a .program .now) [] (a .log .now) []) (called .tick .ensures) (start .pre)
 
 press-requires : tie.Need-press-requires
 press-requires c κs = search needs
@@ -63,7 +74,11 @@ same-length-11 : tie.Need-same-length-11
 same-length-11 c = search needs
 
 returns-4 : tie.Need-returns-4
-returns-4 c = call-kept (Calls.press (c .before .before .before .before .before .before .before .before .before .before .before .before .before .args .x)) (c .before .before .before .before .before .before .before .before .before .before .before .before .before .args .c) (areas (c .before .before .before .before .before .before .before .before .before .before .before .before .before .args .program .now) [] (c .before .before .before .before .before .before .before .before .before .before .before .before .before .args .log .now) []) (c .before .before .press .ensures) (c .before .before .before .before .before .before .before .before .before .before .before .before .before .pre)
+returns-4 c =
+    let called = c .before .before in
+    let start = called .before .before .before .before .before .before .before .before .before .before .before in
+    let a = start .args in
+    call-kept (Calls.press (a .x)) (a .b .controller) (areas (a .program .now) [] (a .log .now) []) (called .press .ensures) (start .pre)
 
 empty-requires : tie.Need-empty-requires
 empty-requires c κs = search needs
@@ -75,7 +90,11 @@ same-length-13 : tie.Need-same-length-13
 same-length-13 c = search needs
 
 returns-5 : tie.Need-returns-5
-returns-5 c = call-kept Calls.emptying (c .before .before .before .before .before .before .before .before .before .before .before .before .before .args .c) (areas [] [] (c .before .before .before .before .before .before .before .before .before .before .before .before .before .args .log .now) (c .before .before .before .before .before .before .before .before .before .before .before .before .before .args .out .now)) (c .before .before .empty .ensures) (c .before .before .before .before .before .before .before .before .before .before .before .before .before .pre)
+returns-5 c =
+    let called = c .before .before in
+    let start = called .before .before .before .before .before .before .before .before .before .before .before in
+    let a = start .args in
+    call-kept Calls.emptying (a .b .controller) (areas [] [] (a .log .now) (a .out .now)) (called .empty .ensures) (start .pre)
 
 pub tried-spec : {M : Type 1} → statement M
 tried-spec =

@@ -8,6 +8,12 @@ use Rattle.trials.proofs.turn.Tie as tie
 read-record-requires : tie.Need-read-record-requires
 read-record-requires c κs = search needs
 
+flushed-requires : tie.Need-flushed-requires
+flushed-requires c κs = search needs
+
+same-length : tie.Need-same-length
+same-length c = search needs
+
 returns : tie.Need-returns
 returns c = search needs
 
@@ -15,10 +21,9 @@ one-requires : tie.Need-one-requires
 one-requires c κs = search needs
 
 resized-requires : tie.Need-resized-requires
-resized-requires c κs = c .before .before .before .before .before .before .before .before .before .before .before .before .before .before .before .before .before .before .before .before .pre .1
-
-same-length : tie.Need-same-length
-same-length c = search needs
+resized-requires c κs =
+    let called = c .before .before .before .before .before .before .before .before .before .before .before .before in
+    called .before .before .before .before .before .before .before .before .before .before .before .before .before .before .pre .1
 
 same-length-2 : tie.Need-same-length-2
 same-length-2 c = search needs
@@ -29,19 +34,32 @@ same-length-3 c = search needs
 same-length-4 : tie.Need-same-length-4
 same-length-4 c = search needs
 
+same-length-5 : tie.Need-same-length-5
+same-length-5 c = search needs
+
+same-length-6 : tie.Need-same-length-6
+same-length-6 c = search needs
+
 returns-2 : tie.Need-returns-2
-returns-2 c = (c .before .before .before .before .before .before .before .before .before .one .ensures, c .resized .ensures, (same-length c ∙ c .before .before .before .before .before .before .before .before .before .before .before .before .before .before .before .before .before .before .before .before .before .pre .2 .0, same-length-2 c ∙ c .before .before .before .before .before .before .before .before .before .before .before .before .before .before .before .before .before .before .before .before .before .pre .2 .1, same-length-3 c ∙ c .before .before .before .before .before .before .before .before .before .before .before .before .before .before .before .before .before .before .before .before .before .pre .2 .2, same-length-4 c ∙ c .before .before .before .before .before .before .before .before .before .before .before .before .before .before .before .before .before .before .before .before .before .pre .2 .3))
+returns-2 c =
+    let earlier = c .before .before .before .before .before .before .before .before .before .before in
+    let called = earlier .before .before .before in
+    let had = called .before .before .before .before .before .before .before .before .before .before .before .before .before .before .pre .2 in
+    (called .one .ensures, c .resized .ensures, (same-length-2 c ∙ had .0, same-length-3 c ∙ had .1, same-length-4 c ∙ had .2, same-length-5 c ∙ had .3))
 
 pub turn-spec : {M : Type 1} → statement M
 turn-spec =
     tie.close
     (tie.spec
     read-record-requires
+    flushed-requires
+    same-length
     returns
     one-requires
     resized-requires
-    same-length
     same-length-2
     same-length-3
     same-length-4
+    same-length-5
+    same-length-6
     returns-2)

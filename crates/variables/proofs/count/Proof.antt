@@ -4,10 +4,6 @@ use Rattle.variables.proofs.Addresses.{counter-place}
 use borrow.Author.Needs.{needs}
 use Rattle.variables.proofs.count.Statement.{statement}
 use Rattle.variables.proofs.count.Tie as tie
-use Rattle.variables.proofs.count.Reads as reads
-use Rattle.variables.proofs.count.Lts as lts
-use Rattle.formats.proofs.Text.new.Reads as new-reads
-use Rattle.formats.proofs.Text.shown.Reads as shown-reads
 
 sub-counter : tie.Need-sub-counter
 sub-counter c = search needs
@@ -31,7 +27,12 @@ shown-requires : tie.Need-shown-requires
 shown-requires c κs = search needs
 
 returns : tie.Need-returns
-returns c = (simp (c .shown .ensures .0, c .before .before .new .ensures .0, counter-place (c .before .before .before .before .before .args .k)), search needs)
+returns c = (
+  let args = c .before .before .before .before .before .args in
+      let new = c .before .before .new in
+      simp (c .shown .ensures .0, new .ensures .0, counter-place (args .k)),
+  search needs,
+)
 
 pub count-spec : {M : Type 1} → statement M
 count-spec =

@@ -3,10 +3,6 @@
 use borrow.Author.Needs.{needs}
 use Rattle.variables.proofs.decimal.Statement.{statement}
 use Rattle.variables.proofs.decimal.Tie as tie
-use Rattle.variables.proofs.decimal.Reads as reads
-use Rattle.variables.proofs.decimal.Lts as lts
-use Rattle.formats.proofs.Text.new.Reads as new-reads
-use Rattle.formats.proofs.Text.shown.Reads as shown-reads
 
 new-requires : tie.Need-new-requires
 new-requires c κs = search needs

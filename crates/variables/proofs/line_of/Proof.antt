@@ -5,10 +5,6 @@ use Rattle.variables.specs.Variables.{lineOf}
 use borrow.Author.Needs.{needs}
 use Rattle.variables.proofs.line_of.Statement.{statement}
 use Rattle.variables.proofs.line_of.Tie as tie
-use Rattle.variables.proofs.line_of.Reads as reads
-use Rattle.variables.proofs.line_of.Lts as lts
-use Rattle.lines.proofs.line_at.Reads as line-at-reads
-use Rattle.variables.proofs.single_line.Reads as single-line-reads
 
 single-line-requires : tie.Need-single-line-requires
 single-line-requires c κs = search needs

@@ -4,8 +4,6 @@ use Rattle.variables.proofs.Bits.{status-bits}
 use borrow.Author.Needs.{needs}
 use Rattle.variables.proofs.status.Statement.{statement}
 use Rattle.variables.proofs.status.Tie as tie
-use Rattle.variables.proofs.status.Reads as reads
-use Rattle.variables.proofs.status.Lts as lts
 
 cast-result : tie.Need-cast-result
 cast-result c = search needs

@@ -6,15 +6,6 @@ use Rattle.variables.proofs.Addresses.{from-203, from-213}
 use borrow.Author.Needs.{needs}
 use Rattle.variables.proofs.value.Statement.{statement}
 use Rattle.variables.proofs.value.Tie as tie
-use Rattle.variables.proofs.value.Reads as reads
-use Rattle.variables.proofs.value.Lts as lts
-use Rattle.texts.proofs.line_text.Reads as line-text-reads
-use Rattle.variables.proofs.count.Reads as count-reads
-use Rattle.variables.proofs.decimal.Reads as decimal-reads
-use Rattle.variables.proofs.hex.Reads as hex-reads
-use Rattle.variables.proofs.line_of.Reads as line-of-reads
-use Rattle.variables.proofs.output_byte.Reads as output-byte-reads
-use Rattle.variables.proofs.status.Reads as status-reads
 
 status-requires : tie.Need-status-requires
 status-requires c κs = search needs
@@ -50,13 +41,22 @@ line-text-requires : tie.Need-line-text-requires
 line-text-requires c κs = search needs
 
 output-byte-requires : tie.Need-output-byte-requires
-output-byte-requires c κs = (from-203 _ (c .before .if1 .left) (c .before .before .match .rest .0 .0 .0 .0 .0 .0 .0 .1) (c .before .before .match .rest .0 .0 .0 .0 .0 .0 .1), search needs)
+output-byte-requires c κs = (
+  let match = c .before .before .match in
+      from-203 _ (c .before .if1 .left) (match .rest .0 .0 .0 .0 .0 .0 .0 .1) (match .rest .0 .0 .0 .0 .0 .0 .1),
+  search needs,
+)
 
 hex-requires-4 : tie.Need-hex-requires-4
 hex-requires-4 c κs = search needs
 
 count-requires : tie.Need-count-requires
-count-requires c κs = (from-213 _ (c .if2 .left) (c .before .before .match .rest .0 .0 .0 .0 .0 .1) (c .before .before .match .rest .0 .0 .0 .0 .1) (c .before .before .match .rest .0 .0 .0 .1) (c .before .before .match .rest .0 .0 .1) (c .before .before .match .rest .0 .1) (c .before .before .match .rest .1), search needs)
+count-requires c κs = (
+  let match = c .before .before .match in
+      from-213 _ (c .if2 .left) (match .rest .0 .0 .0 .0 .0 .1) (match .rest .0 .0 .0 .0 .1) (match .rest .0 .0 .0 .1)
+      (match .rest .0 .0 .1) (match .rest .0 .1) (match .rest .1),
+  search needs,
+)
 
 returns : tie.Need-returns
 unfolding value
@@ -92,15 +92,49 @@ returns-8 c = (simp (c .before .match .keys8, c .decimal5 .ensures .0), search n
 
 returns-9 : tie.Need-returns-9
 unfolding value
-returns-9 c = (simp (le-leb (c .before .before .before .before .before .args .k) 200 (search needs), c .line-text .ensures .0, c .before .line-of .ensures), search needs)
+returns-9 c = (
+  let args = c .before .before .before .before .before .args in
+      simp (le-leb (args .k) 200 (search needs), c .line-text .ensures .0, c .before .line-of .ensures),
+  search needs,
+)
 
 returns-10 : tie.Need-returns-10
 unfolding value
-returns-10 c = (simp (lt-leb _ 200 (c .before .before .before .if1 .left), ne-eqb _ _ (c .before .before .before .before .match .rest .0 .0 .0 .0 .0 .0 .0 .1), ne-eqb _ _ (c .before .before .before .before .match .rest .0 .0 .0 .0 .0 .0 .1), le-leb (c .before .before .before .before .before .before .args .k) 206 (search needs), c .hex4 .ensures .0, c .before .output-byte .ensures), search needs)
+returns-10 c = (
+  let args = c .before .before .before .before .before .before .args in
+      let match = c .before .before .before .before .match in
+      let if1 = c .before .before .before .if1 in
+      simp (
+        lt-leb _ 200 (if1 .left),
+        ne-eqb _ _ (match .rest .0 .0 .0 .0 .0 .0 .0 .1),
+        ne-eqb _ _ (match .rest .0 .0 .0 .0 .0 .0 .1),
+        le-leb (args .k) 206 (search needs),
+        c .hex4 .ensures .0,
+        c .before .output-byte .ensures,
+      ),
+  search needs,
+)
 
 returns-11 : tie.Need-returns-11
 unfolding value
-returns-11 c = (simp (lt-leb _ 200 (c .before .before .if1 .left), ne-eqb _ _ (c .before .before .before .match .rest .0 .0 .0 .0 .0 .0 .0 .1), ne-eqb _ _ (c .before .before .before .match .rest .0 .0 .0 .0 .0 .0 .1), lt-leb _ 206 (c .before .if2 .left), ne-eqb _ _ (c .before .before .before .match .rest .0 .0 .0 .0 .0 .1), ne-eqb _ _ (c .before .before .before .match .rest .0 .0 .0 .0 .1), ne-eqb _ _ (c .before .before .before .match .rest .0 .0 .0 .1), ne-eqb _ _ (c .before .before .before .match .rest .0 .0 .1), ne-eqb _ _ (c .before .before .before .match .rest .0 .1), ne-eqb _ _ (c .before .before .before .match .rest .1), c .count .ensures .0), search needs)
+returns-11 c = (
+  let match = c .before .before .before .match in
+      let if1 = c .before .before .if1 in
+      simp (
+        lt-leb _ 200 (if1 .left),
+        ne-eqb _ _ (match .rest .0 .0 .0 .0 .0 .0 .0 .1),
+        ne-eqb _ _ (match .rest .0 .0 .0 .0 .0 .0 .1),
+        lt-leb _ 206 (c .before .if2 .left),
+        ne-eqb _ _ (match .rest .0 .0 .0 .0 .0 .1),
+        ne-eqb _ _ (match .rest .0 .0 .0 .0 .1),
+        ne-eqb _ _ (match .rest .0 .0 .0 .1),
+        ne-eqb _ _ (match .rest .0 .0 .1),
+        ne-eqb _ _ (match .rest .0 .1),
+        ne-eqb _ _ (match .rest .1),
+        c .count .ensures .0,
+      ),
+  search needs,
+)
 
 pub value-spec : {M : Type 1} → statement M
 value-spec =

@@ -3,7 +3,7 @@
 use mathlib.Core.Path.{sym, _∙_}
 use borrow.Author.Tests.{eq-eqb, ne-eqb, le-leb, lt-leb}
 use Rattle.formats.specs.Checks.{_>>=_, _>>_, _orElse_}
-use Rattle.formats.proofs.Answers.{is-number, no-number}
+use Rattle.formats.proofs.NumbersRead.{is-number, no-number}
 use Rattle.wire.specs.Command.{addressIn}
 use Rattle.wire.proofs.Addresses.{five-long}
 use borrow.Author.Needs.{needs}
@@ -23,11 +23,15 @@ returns-2 c = simp (eq-eqb _ _ (c .before .if1 .taken), le-leb _ _ (c .if2 .left
 
 returns-3 : tie.Need-returns-3
 unfolding addressIn _>>=_ _>>_ _orElse_
-returns-3 c = simp (ne-eqb _ _ (c .before .before .if1 .left), eq-eqb _ _ (c .before .if3 .taken), lt-leb _ _ (c .if4 .taken))
+returns-3 c =
+    let if1 = c .before .before .if1 in
+    simp (ne-eqb _ _ (if1 .left), eq-eqb _ _ (c .before .if3 .taken), lt-leb _ _ (c .if4 .taken))
 
 returns-4 : tie.Need-returns-4
 unfolding addressIn _>>=_ _>>_ _orElse_
-returns-4 c = simp (ne-eqb _ _ (c .before .before .if1 .left), eq-eqb _ _ (c .before .if3 .taken), le-leb _ _ (c .if4 .left))
+returns-4 c =
+    let if1 = c .before .before .if1 in
+    simp (ne-eqb _ _ (if1 .left), eq-eqb _ _ (c .before .if3 .taken), le-leb _ _ (c .if4 .left))
 
 sub-number-in : tie.Need-sub-number-in
 sub-number-in c = search needs
@@ -36,7 +40,10 @@ part-number-in-start : tie.Need-part-number-in-start
 part-number-in-start c = search needs
 
 part-number-in-end : tie.Need-part-number-in-end
-part-number-in-end c = five-long (c .before .before .before .before .args .cs .now) (c .before .before .before .before .pre .1) (c .before .if1 .left) (c .if3 .left)
+part-number-in-end c =
+    let args = c .before .before .before .before .args in
+    let pre = c .before .before .before .before .pre in
+    five-long (args .cs .now) (pre .1) (c .before .if1 .left) (c .if3 .left)
 
 number-in-requires : tie.Need-number-in-requires
 number-in-requires c κs = search needs
@@ -49,18 +56,32 @@ enum-told c = search needs
 
 returns-5 : tie.Need-returns-5
 unfolding addressIn _>>=_ _>>_ _orElse_
-returns-5 c = simp (ne-eqb _ _ (c .before .before .before .before .before .if1 .left), ne-eqb _ _ (c .before .before .before .before .if3 .left), no-number 10 4 _ (sym (c .enum-told .given .1) ∙ c .before .before .number-in .ensures))
+returns-5 c =
+    let if1 = c .before .before .before .before .before .if1 in
+    let if3 = c .before .before .before .before .if3 in
+    let number-in = c .before .before .number-in in
+    simp (ne-eqb _ _ (if1 .left), ne-eqb _ _ (if3 .left), no-number 10 4 _ (sym (c .enum-told .given .1) ∙ number-in .ensures))
 
 returns-6 : tie.Need-returns-6
 unfolding addressIn _>>=_ _>>_ _orElse_
-returns-6 c = simp (ne-eqb _ _ (c .before .before .before .before .before .before .before .if1 .left), ne-eqb _ _ (c .before .before .before .before .before .before .if3 .left), is-number 10 4 _ _ (sym (c .before .before .k .given .1) ∙ c .before .before .before .before .number-in .ensures), lt-leb _ _ (c .if5 .taken))
+returns-6 c =
+    let if1 = c .before .before .before .before .before .before .before .if1 in
+    let if3 = c .before .before .before .before .before .before .if3 in
+    let number-in = c .before .before .before .before .number-in in
+    let k = c .before .before .k in
+    simp (ne-eqb _ _ (if1 .left), ne-eqb _ _ (if3 .left), is-number 10 4 _ _ (sym (k .given .1) ∙ number-in .ensures), lt-leb _ _ (c .if5 .taken))
 
 cast-t6 : tie.Need-cast-t6
 cast-t6 c = search needs
 
 returns-7 : tie.Need-returns-7
 unfolding addressIn _>>=_ _>>_ _orElse_
-returns-7 c = simp (ne-eqb _ _ (c .before .before .before .before .before .before .before .if1 .left), ne-eqb _ _ (c .before .before .before .before .before .before .if3 .left), is-number 10 4 _ _ (sym (c .before .before .k .given .1) ∙ c .before .before .before .before .number-in .ensures), le-leb _ _ (c .if5 .left))
+returns-7 c =
+    let if1 = c .before .before .before .before .before .before .before .if1 in
+    let if3 = c .before .before .before .before .before .before .if3 in
+    let number-in = c .before .before .before .before .number-in in
+    let k = c .before .before .k in
+    simp (ne-eqb _ _ (if1 .left), ne-eqb _ _ (if3 .left), is-number 10 4 _ _ (sym (k .given .1) ∙ number-in .ensures), le-leb _ _ (c .if5 .left))
 
 pub address-in-spec : {M : Type 1} → statement M
 address-in-spec =

@@ -7,7 +7,7 @@ use lib.ListN.{length, take}
 use lib.ListN.{length-set}
 use borrow.Author.Needs.{needs}
 use Rattle.wire.specs.Collecting.{capital}
-use Rattle.wire.proofs.Answers.{capital-more}
+use Rattle.wire.proofs.DataHeard.{capital-more}
 use Rattle.wire.proofs.capitals.Statement.{statement}
 use Rattle.wire.proofs.capitals.Tie as tie
 
@@ -37,8 +37,12 @@ loop-less c = search needs
 
 loop-again : tie.Need-loop-again Inv-loop μ-loop
 loop-again c =
-    let l = c .before .before .loop in
-    (search needs, simp length-set (l .inv .1), capital-more (c .before .before .before .args .t1) (l .copy) (l .i) _ (search needs) (search needs) (l .inv .2) (c .capital .ensures))
+    let l = c .before .before .loop in (
+      search needs,
+      simp length-set (l .inv .1),
+      let args = c .before .before .before .args in
+          capital-more (args .t1) (l .copy) (l .i) _ (search needs) (search needs) (l .inv .2) (c .capital .ensures),
+    )
 
 returns : tie.Need-returns Inv-loop μ-loop
 returns c =

@@ -21,7 +21,10 @@ command-in-requires : tie.Need-command-in-requires
 command-in-requires c κs = search needs
 
 returns : tie.Need-returns
-returns c = heard-sent (c .before .before .before .before .before .args .w) (c .before .before .before .before .before .args .mode) (c .before .before .before .before .before .args .parameter) _ (c .before .before .before .capitals .ensures) (c .command-in .ensures)
+returns c =
+    let args = c .before .before .before .before .before .args in
+    let capitals = c .before .before .before .capitals in
+    heard-sent (args .w) (args .mode) (args .parameter) _ (capitals .ensures) (c .command-in .ensures)
 
 pub command-spec : {M : Type 1} → statement M
 command-spec =

@@ -2,7 +2,7 @@
 -- Assumes nothing.
 use mathlib.Core.Path.{sym, _∙_}
 use Rattle.formats.specs.Checks.{_>>=_, _>>_, _orElse_}
-use Rattle.formats.proofs.Answers.{byte-told}
+use Rattle.formats.proofs.NumbersRead.{byte-told}
 use Rattle.wire.specs.Command.{addressIn, readCommand}
 use Rattle.wire.proofs.Addresses.{rest-some, rest-none}
 use borrow.Author.Needs.{needs}
@@ -20,18 +20,35 @@ enum-known-e c = search needs
 
 returns : tie.Need-returns
 unfolding readCommand _>>=_ _>>_ _orElse_
-returns c = simp (byte-told (addressIn (c .before .before .before .before .before .args .next) (c .before .before .before .before .before .args .cs .now)) (sym (c .before .e .given .1) ∙ c .before .before .before .address-in .ensures))
+returns c =
+    let args = c .before .before .before .before .before .args in
+    let address-in = c .before .before .before .address-in in
+    simp (byte-told (addressIn (args .next) (args .cs .now)) (sym (c .before .e .given .1) ∙ address-in .ensures))
 
 rest-at-requires : tie.Need-rest-at-requires
 rest-at-requires c κs = search needs
 
 returns-2 : tie.Need-returns-2
 unfolding readCommand _>>=_ _>>_ _orElse_
-returns-2 c = simp (byte-told (addressIn (c .before .before .before .before .before .before .before .args .next) (c .before .before .before .before .before .before .before .args .cs .now)) (sym (c .before .before .before .k .given .1) ∙ c .before .before .before .before .before .address-in .ensures), rest-some _ _ (c .before .rest-at .ensures .1) (c .if1 .taken))
+returns-2 c =
+    let args = c .before .before .before .before .before .before .before .args in
+    let address-in = c .before .before .before .before .before .address-in in
+    let k = c .before .before .before .k in
+    simp (
+      byte-told (addressIn (args .next) (args .cs .now)) (sym (k .given .1) ∙ address-in .ensures),
+      rest-some _ _ (c .before .rest-at .ensures .1) (c .if1 .taken),
+    )
 
 returns-3 : tie.Need-returns-3
 unfolding readCommand _>>=_ _>>_ _orElse_
-returns-3 c = simp (byte-told (addressIn (c .before .before .before .before .before .before .before .args .next) (c .before .before .before .before .before .before .before .args .cs .now)) (sym (c .before .before .before .k .given .1) ∙ c .before .before .before .before .before .address-in .ensures), rest-none _ _ (c .before .rest-at .ensures .1) (c .if1 .left))
+returns-3 c =
+    let args = c .before .before .before .before .before .before .before .args in
+    let address-in = c .before .before .before .before .before .address-in in
+    let k = c .before .before .before .k in
+    simp (
+      byte-told (addressIn (args .next) (args .cs .now)) (sym (k .given .1) ∙ address-in .ensures),
+      rest-none _ _ (c .before .rest-at .ensures .1) (c .if1 .left),
+    )
 
 pub read-command-spec : {M : Type 1} → statement M
 read-command-spec =

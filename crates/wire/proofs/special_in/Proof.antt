@@ -1,11 +1,12 @@
 -- `wire::special_in` meets its contract, check by check.
 -- Assumes nothing.
 use mathlib.Core.Path.{sym, _∙_}
+use borrow.Author.Tests.{ne-eqb}
 use Rattle.formats.specs.Checks.{_>>=_, _>>_, _orElse_}
 use Rattle.formats.specs.Digits.{dIn}
+use Rattle.formats.proofs.NumbersRead.{byte-told}
 use Rattle.special.specs.Special.{specialOf}
-use Rattle.formats.proofs.Answers.{byte-told}
-use Rattle.special.proofs.Answers.{named-told}
+use Rattle.special.proofs.NamedBack.{named-told}
 use Rattle.wire.specs.Command.{specialIn}
 use borrow.Author.Needs.{needs}
 use Rattle.wire.proofs.special_in.Statement.{statement}
@@ -22,7 +23,10 @@ enum-known-e c = search needs
 
 returns : tie.Need-returns
 unfolding specialIn _>>=_ _>>_ _orElse_
-returns c = simp (byte-told (dIn (c .before .before .before .before .before .args .cs .now)) (sym (c .before .e .given .1) ∙ c .before .before .before .d-in .ensures))
+returns c =
+    let args = c .before .before .before .before .before .args in
+    let d-in = c .before .before .before .d-in in
+    simp (byte-told (dIn (args .cs .now)) (sym (c .before .e .given .1) ∙ d-in .ensures))
 
 special-of-requires : tie.Need-special-of-requires
 special-of-requires c κs = search needs
@@ -35,25 +39,66 @@ enum-known-e-2 c = search needs
 
 returns-2 : tie.Need-returns-2
 unfolding specialIn _>>=_ _>>_ _orElse_
-returns-2 c = simp (byte-told (dIn (c .before .before .before .before .before .before .before .before .before .args .cs .now)) (sym (c .before .before .before .before .before .n .given .1) ∙ c .before .before .before .before .before .before .before .d-in .ensures), named-told (specialOf (c .before .before .before .before .before .n .given .0 .0)) (sym (c .before .e2 .given .1) ∙ c .before .before .before .special-of .ensures))
+returns-2 c =
+    let args = c .before .before .before .before .before .before .before .before .before .args in
+    let d-in = c .before .before .before .before .before .before .before .d-in in
+    let n = c .before .before .before .before .before .n in
+    let special-of = c .before .before .before .special-of in
+    let code = byte-told (dIn (args .cs .now)) (sym (n .given .1) ∙ d-in .ensures) in
+    let named = named-told (specialOf (n .given .0 .0)) (sym (c .before .e2 .given .1) ∙ special-of .ensures) in
+    simp (code, named)
 
-is-allowed-requires : tie.Need-is-allowed-requires
-is-allowed-requires c κs = search needs
+forbidden-requires : tie.Need-forbidden-requires
+forbidden-requires c κs = search needs
+
+returns-3 : tie.Need-returns-3
+unfolding specialIn _>>=_ _>>_ _orElse_
+returns-3 c =
+    let d-in = c .before .before .before .before .before .before .before .before .before .d-in in
+    let n = c .before .before .before .before .before .before .before .n in
+    let special-of = c .before .before .before .before .before .special-of in
+    let s = c .before .before .before .s in
+    let cs = c .before .before .before .before .before .before .before .before .before .before .before .args .cs .now in
+    let code = byte-told (dIn cs) (sym (n .given .1) ∙ d-in .ensures) in
+    let named = named-told (specialOf (n .given .0 .0)) (sym (s .given .1) ∙ special-of .ensures) in
+    simp (code, named, sym (c .before .forbidden .ensures), ne-eqb _ _ (c .if1 .taken))
 
 in-reach-requires : tie.Need-in-reach-requires
 in-reach-requires c κs = search needs
 
-returns-3 : tie.Need-returns-3
-unfolding specialIn _>>=_ _>>_ _orElse_
-returns-3 c = simp (byte-told (dIn (c .before .before .before .before .before .before .before .before .before .before .before .before .before .args .cs .now)) (sym (c .before .before .before .before .before .before .before .before .before .n .given .1) ∙ c .before .before .before .before .before .before .before .before .before .before .before .d-in .ensures), named-told (specialOf (c .before .before .before .before .before .before .before .before .before .n .given .0 .0)) (sym (c .before .before .before .before .before .s .given .1) ∙ c .before .before .before .before .before .before .before .special-of .ensures), sym (c .before .before .before .is-allowed .ensures) ∙ c .before .before .if1 .taken, sym (c .before .in-reach .ensures) ∙ c .if2 .taken)
-
 returns-4 : tie.Need-returns-4
 unfolding specialIn _>>=_ _>>_ _orElse_
-returns-4 c = simp (byte-told (dIn (c .before .before .before .before .before .before .before .before .before .before .before .before .before .args .cs .now)) (sym (c .before .before .before .before .before .before .before .before .before .n .given .1) ∙ c .before .before .before .before .before .before .before .before .before .before .before .d-in .ensures), named-told (specialOf (c .before .before .before .before .before .before .before .before .before .n .given .0 .0)) (sym (c .before .before .before .before .before .s .given .1) ∙ c .before .before .before .before .before .before .before .special-of .ensures), sym (c .before .before .before .is-allowed .ensures) ∙ c .before .before .if1 .taken, sym (c .before .in-reach .ensures) ∙ c .if2 .left)
+returns-4 c =
+    let earlier = c .before .before .before .before .before .before .before .before .before .before in
+    let args = earlier .before .before .before .args in
+    let d-in = c .before .before .before .before .before .before .before .before .before .before .before .d-in in
+    let n = c .before .before .before .before .before .before .before .before .before .n in
+    let special-of = c .before .before .before .before .before .before .before .special-of in
+    let s = c .before .before .before .before .before .s in
+    let forbidden = c .before .before .before .forbidden in
+    let if1 = c .before .before .if1 in
+    let cs = args .cs .now in
+    let code = byte-told (dIn cs) (sym (n .given .1) ∙ d-in .ensures) in
+    let named = named-told (specialOf (n .given .0 .0)) (sym (s .given .1) ∙ special-of .ensures) in
+    let allowed = sym (forbidden .ensures) ∙ if1 .left in
+    simp (code, named, allowed, sym (c .before .in-reach .ensures) ∙ c .if2 .taken)
 
 returns-5 : tie.Need-returns-5
 unfolding specialIn _>>=_ _>>_ _orElse_
-returns-5 c = simp (byte-told (dIn (c .before .before .before .before .before .before .before .before .before .before .before .args .cs .now)) (sym (c .before .before .before .before .before .before .before .n .given .1) ∙ c .before .before .before .before .before .before .before .before .before .d-in .ensures), named-told (specialOf (c .before .before .before .before .before .before .before .n .given .0 .0)) (sym (c .before .before .before .s .given .1) ∙ c .before .before .before .before .before .special-of .ensures), sym (c .before .is-allowed .ensures) ∙ c .if1 .left)
+returns-5 c =
+    let earlier = c .before .before .before .before .before .before .before .before .before .before in
+    let args = earlier .before .before .before .args in
+    let d-in = c .before .before .before .before .before .before .before .before .before .before .before .d-in in
+    let n = c .before .before .before .before .before .before .before .before .before .n in
+    let special-of = c .before .before .before .before .before .before .before .special-of in
+    let s = c .before .before .before .before .before .s in
+    let forbidden = c .before .before .before .forbidden in
+    let if1 = c .before .before .if1 in
+    let cs = args .cs .now in
+    let code = byte-told (dIn cs) (sym (n .given .1) ∙ d-in .ensures) in
+    let named = named-told (specialOf (n .given .0 .0)) (sym (s .given .1) ∙ special-of .ensures) in
+    let allowed = sym (forbidden .ensures) ∙ if1 .left in
+    simp (code, named, allowed, sym (c .before .in-reach .ensures) ∙ c .if2 .left)
 
 pub special-in-spec : {M : Type 1} → statement M
 special-in-spec =
@@ -67,8 +112,8 @@ special-in-spec =
     enum-known-s
     enum-known-e-2
     returns-2
-    is-allowed-requires
-    in-reach-requires
+    forbidden-requires
     returns-3
+    in-reach-requires
     returns-4
     returns-5)

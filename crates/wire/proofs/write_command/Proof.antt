@@ -2,9 +2,9 @@
 -- Assumes nothing.
 use mathlib.Core.Path.{sym, _∙_}
 use Rattle.formats.specs.Checks.{_>>=_, _>>_, _orElse_}
-use Rattle.formats.proofs.Answers.{byte-told}
+use Rattle.formats.proofs.NumbersRead.{byte-told}
 use Rattle.wire.specs.Command.{addressIn, rest, dataIn, writeCommand}
-use Rattle.wire.proofs.Answers.{given-told, data-behind}
+use Rattle.wire.proofs.DataHeard.{given-told, data-behind}
 use borrow.Author.Needs.{needs}
 use Rattle.wire.proofs.write_command.Statement.{statement}
 use Rattle.wire.proofs.write_command.Tie as tie
@@ -20,7 +20,10 @@ enum-known-e c = search needs
 
 returns : tie.Need-returns
 unfolding writeCommand _>>=_ _>>_ _orElse_
-returns c = simp (byte-told (addressIn (c .before .before .before .before .before .args .next) (c .before .before .before .before .before .args .cs .now)) (sym (c .before .e .given .1) ∙ c .before .before .before .address-in .ensures))
+returns c =
+    let args = c .before .before .before .before .before .args in
+    let address-in = c .before .before .before .address-in in
+    simp (byte-told (addressIn (args .next) (args .cs .now)) (sym (c .before .e .given .1) ∙ address-in .ensures))
 
 is-writable-requires : tie.Need-is-writable-requires
 is-writable-requires c κs = search needs
@@ -51,19 +54,69 @@ enum-known-e-2 c = search needs
 
 returns-2 : tie.Need-returns-2
 unfolding writeCommand _>>=_ _>>_ _orElse_
-returns-2 c = simp (byte-told (addressIn (c .before .before .before .before .before .before .before .before .before .before .before .before .before .before .before .args .next) (c .before .before .before .before .before .before .before .before .before .before .before .before .before .before .before .args .cs .now)) (sym (c .before .before .before .before .before .before .before .before .before .before .before .k .given .1) ∙ c .before .before .before .before .before .before .before .before .before .before .before .before .before .address-in .ensures), sym (c .before .before .before .before .before .before .before .before .before .is-writable .ensures) ∙ c .before .before .before .before .before .before .before .before .if1 .taken, sym (c .before .before .before .before .before .before .before .is-open .ensures) ∙ c .before .before .before .before .before .before .if2 .taken, given-told (dataIn (c .before .before .before .before .before .before .before .before .before .before .before .before .before .before .before .args .mode) (c .before .before .before .before .before .before .before .before .before .before .before .before .before .before .before .args .parameter) (c .before .before .before .before .before .before .before .before .before .before .before .k .given .0 .0) (rest (c .before .before .before .before .before .before .before .before .before .before .before .before .before .before .before .args .cs .now))) (sym (c .before .e2 .given .1) ∙ data-behind (c .before .before .before .before .before .before .before .before .before .before .before .before .before .before .before .args .mode) (c .before .before .before .before .before .before .before .before .before .before .before .before .before .before .before .args .parameter) (c .before .before .before .before .before .before .before .before .before .before .before .k .given .0 .0) _ (c .before .before .before .before .before .before .before .before .before .before .before .before .before .before .before .args .cs .now) (c .before .before .before .before .before .rest-at .ensures .1) (c .before .before .before .data-in .ensures)))
+returns-2 c =
+    let earlier = c .before .before .before .before .before .before .before .before .before .before in
+    let args = earlier .before .before .before .before .before .args in
+    let address-in = earlier .before .before .before .address-in in
+    let k = c .before .before .before .before .before .before .before .before .before .before .before .k in
+    let is-writable = c .before .before .before .before .before .before .before .before .before .is-writable in
+    let if1 = c .before .before .before .before .before .before .before .before .if1 in
+    let is-open = c .before .before .before .before .before .before .before .is-open in
+    let if2 = c .before .before .before .before .before .before .if2 in
+    let rest-at = c .before .before .before .before .before .rest-at in
+    let data-in = c .before .before .before .data-in in
+    simp (
+      byte-told (addressIn (args .next) (args .cs .now)) (sym (k .given .1) ∙ address-in .ensures),
+      sym (is-writable .ensures) ∙ if1 .taken,
+      sym (is-open .ensures) ∙ if2 .taken,
+      given-told (dataIn (args .mode) (args .parameter) (k .given .0 .0) (rest (args .cs .now)))
+          (sym (c .before .e2 .given .1)
+          ∙ data-behind (args .mode) (args .parameter) (k .given .0 .0) _ (args .cs .now) (rest-at .ensures .1) (data-in .ensures)),
+    )
 
 returns-3 : tie.Need-returns-3
 unfolding writeCommand _>>=_ _>>_ _orElse_
-returns-3 c = simp (byte-told (addressIn (c .before .before .before .before .before .before .before .before .before .before .before .before .before .before .before .args .next) (c .before .before .before .before .before .before .before .before .before .before .before .before .before .before .before .args .cs .now)) (sym (c .before .before .before .before .before .before .before .before .before .before .before .k .given .1) ∙ c .before .before .before .before .before .before .before .before .before .before .before .before .before .address-in .ensures), sym (c .before .before .before .before .before .before .before .before .before .is-writable .ensures) ∙ c .before .before .before .before .before .before .before .before .if1 .taken, sym (c .before .before .before .before .before .before .before .is-open .ensures) ∙ c .before .before .before .before .before .before .if2 .taken, given-told (dataIn (c .before .before .before .before .before .before .before .before .before .before .before .before .before .before .before .args .mode) (c .before .before .before .before .before .before .before .before .before .before .before .before .before .before .before .args .parameter) (c .before .before .before .before .before .before .before .before .before .before .before .k .given .0 .0) (rest (c .before .before .before .before .before .before .before .before .before .before .before .before .before .before .before .args .cs .now))) (sym (c .before .«data» .given .1) ∙ data-behind (c .before .before .before .before .before .before .before .before .before .before .before .before .before .before .before .args .mode) (c .before .before .before .before .before .before .before .before .before .before .before .before .before .before .before .args .parameter) (c .before .before .before .before .before .before .before .before .before .before .before .k .given .0 .0) _ (c .before .before .before .before .before .before .before .before .before .before .before .before .before .before .before .args .cs .now) (c .before .before .before .before .before .rest-at .ensures .1) (c .before .before .before .data-in .ensures)))
+returns-3 c =
+    let earlier = c .before .before .before .before .before .before .before .before .before .before in
+    let args = earlier .before .before .before .before .before .args in
+    let address-in = earlier .before .before .before .address-in in
+    let k = c .before .before .before .before .before .before .before .before .before .before .before .k in
+    let is-writable = c .before .before .before .before .before .before .before .before .before .is-writable in
+    let if1 = c .before .before .before .before .before .before .before .before .if1 in
+    let is-open = c .before .before .before .before .before .before .before .is-open in
+    let if2 = c .before .before .before .before .before .before .if2 in
+    let rest-at = c .before .before .before .before .before .rest-at in
+    let data-in = c .before .before .before .data-in in
+    simp (
+      byte-told (addressIn (args .next) (args .cs .now)) (sym (k .given .1) ∙ address-in .ensures),
+      sym (is-writable .ensures) ∙ if1 .taken,
+      sym (is-open .ensures) ∙ if2 .taken,
+      given-told (dataIn (args .mode) (args .parameter) (k .given .0 .0) (rest (args .cs .now)))
+          (sym (c .before .«data» .given .1)
+          ∙ data-behind (args .mode) (args .parameter) (k .given .0 .0) _ (args .cs .now) (rest-at .ensures .1) (data-in .ensures)),
+    )
 
 returns-4 : tie.Need-returns-4
 unfolding writeCommand _>>=_ _>>_ _orElse_
-returns-4 c = simp (byte-told (addressIn (c .before .before .before .before .before .before .before .before .before .args .next) (c .before .before .before .before .before .before .before .before .before .args .cs .now)) (sym (c .before .before .before .before .before .k .given .1) ∙ c .before .before .before .before .before .before .before .address-in .ensures), sym (c .before .before .before .is-writable .ensures) ∙ c .before .before .if1 .taken, sym (c .before .is-open .ensures) ∙ c .if2 .left)
+returns-4 c =
+    let args = c .before .before .before .before .before .before .before .before .before .args in
+    let address-in = c .before .before .before .before .before .before .before .address-in in
+    let k = c .before .before .before .before .before .k in
+    let is-writable = c .before .before .before .is-writable in
+    let if1 = c .before .before .if1 in
+    simp (
+      byte-told (addressIn (args .next) (args .cs .now)) (sym (k .given .1) ∙ address-in .ensures),
+      sym (is-writable .ensures) ∙ if1 .taken,
+      sym (c .before .is-open .ensures) ∙ c .if2 .left,
+    )
 
 returns-5 : tie.Need-returns-5
 unfolding writeCommand _>>=_ _>>_ _orElse_
-returns-5 c = simp (byte-told (addressIn (c .before .before .before .before .before .before .before .args .next) (c .before .before .before .before .before .before .before .args .cs .now)) (sym (c .before .before .before .k .given .1) ∙ c .before .before .before .before .before .address-in .ensures), sym (c .before .is-writable .ensures) ∙ c .if1 .left)
+returns-5 c =
+    let args = c .before .before .before .before .before .before .before .args in
+    let address-in = c .before .before .before .before .before .address-in in
+    let k = c .before .before .before .k in
+    simp (byte-told (addressIn (args .next) (args .cs .now)) (sym (k .given .1) ∙ address-in .ensures), sym (c .before .is-writable .ensures) ∙ c .if1 .left)
 
 pub write-command-spec : {M : Type 1} → statement M
 write-command-spec =

@@ -2,7 +2,7 @@
 -- Assumes nothing.
 use borrow.Author.Needs.{needs}
 use native.Mathlib.Omega.{arith}
-use Rattle.formats.specs.Values.{textOf}
+use Rattle.formats.specs.NumbersAndTexts.{textOf}
 use Rattle.formats.proofs.Loops.{show-none, show-more, digit-below}
 use Prim.Native.Nat.{ℕ, _<_}
 use borrow.Fn.Kinds.{In}

@@ -6,8 +6,6 @@ use lib.Seq.{take-suc-set}
 use borrow.Author.Needs.{needs}
 use Rattle.formats.proofs.Text.with.Statement.{statement}
 use Rattle.formats.proofs.Text.with.Tie as tie
-use Rattle.formats.proofs.Text.with.Reads as reads
-use Rattle.formats.proofs.Text.with.Lts as lts
 
 element-write-self : tie.Need-element-write-self
 element-write-self c = search needs

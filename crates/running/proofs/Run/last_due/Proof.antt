@@ -18,7 +18,9 @@ stopped-requires : tie.Need-stopped-requires
 stopped-requires c κs = search needs
 
 returns : tie.Need-returns
-returns c = simp (c .stopped .ensures) (last-stops _ _ _ _ (c .before .before .line-at .ensures) (c .before .match .keys2))
+returns c =
+    let line-at = c .before .before .line-at in
+    simp (c .stopped .ensures) (last-stops _ _ _ _ (line-at .ensures) (c .before .match .keys2))
 
 run-state-requires : tie.Need-run-state-requires
 run-state-requires c κs = search needs
@@ -36,13 +38,26 @@ enum-told-2 : tie.Need-enum-told-2
 enum-told-2 c = search needs
 
 returns-2 : tie.Need-returns-2
-returns-2 c = last-holds _ _ _ _ (c .before .before .before .before .before .before .before .line-at .ensures) (c .before .before .before .before .before .line .given .1) _ (c .before .before .before .run-state .ensures) (c .enum-told .given .1)
+returns-2 c =
+    let line-at = c .before .before .before .before .before .before .before .line-at in
+    let line = c .before .before .before .before .before .line in
+    let run-state = c .before .before .before .run-state in
+    last-holds _ _ _ _ (line-at .ensures) (line .given .1) _ (run-state .ensures) (c .enum-told .given .1)
 
 returns-3 : tie.Need-returns-3
-returns-3 c = simp (c .stopped2 .ensures) (last-ends _ _ _ _ (c .before .before .before .before .before .before .before .before .before .line-at .ensures) (c .before .before .before .before .before .before .before .line .given .1) _ (c .before .before .before .before .before .run-state .ensures) (c .before .before .how .given .1))
+returns-3 c =
+    let line-at = c .before .before .before .before .before .before .before .before .before .line-at in
+    let line = c .before .before .before .before .before .before .before .line in
+    let run-state = c .before .before .before .before .before .run-state in
+    let how = c .before .before .how in
+    simp (c .stopped2 .ensures) (last-ends _ _ _ _ (line-at .ensures) (line .given .1) _ (run-state .ensures) (how .given .1))
 
 returns-4 : tie.Need-returns-4
-returns-4 c = last-goes-on _ _ _ _ (c .before .before .before .before .before .before .before .line-at .ensures) (c .before .before .before .before .before .line .given .1) _ (c .before .before .before .run-state .ensures) (c .enum-told2 .given .1)
+returns-4 c =
+    let line-at = c .before .before .before .before .before .before .before .line-at in
+    let line = c .before .before .before .before .before .line in
+    let run-state = c .before .before .before .run-state in
+    last-goes-on _ _ _ _ (line-at .ensures) (line .given .1) _ (run-state .ensures) (c .enum-told2 .given .1)
 
 pub last-due-spec : {M : Type 1} → statement M
 last-due-spec =

@@ -32,13 +32,22 @@ add-m : tie.Need-add-m Inv-loop μ-loop
 add-m c = omega (arith, c .counted .ensures, counted-one (c .before .line-at .result))
 
 run-line-requires : tie.Need-run-line-requires Inv-loop μ-loop
-run-line-requires c κs = (c .before .before .before .before .before .pre .0, still (c .before .before .before .loop .inv .1), c .before .line-at .ensures)
+run-line-requires c κs =
+    let pre = c .before .before .before .before .before .pre in
+    let loop = c .before .before .before .loop in
+    (pre .0, still (loop .inv .1), c .before .line-at .ensures)
 
 enum-told : tie.Need-enum-told Inv-loop μ-loop
 enum-told c = search needs
 
 returns : tie.Need-returns Inv-loop μ-loop
-returns c = due-holds _ _ _ _ _ _ (c .before .before .before .before .before .before .loop-test .taken) (c .before .before .before .before .before .line-at .ensures) (c .before .before .before .before .counted .ensures) (c .before .before .before .run-line .ensures) (c .enum-told .given .1) ∙ sym (c .before .before .before .before .before .before .before .loop .inv .2)
+returns c =
+    let loop = c .before .before .before .before .before .before .before .loop in
+    let loop-test = c .before .before .before .before .before .before .loop-test in
+    let line-at = c .before .before .before .before .before .line-at in
+    let counted = c .before .before .before .before .counted in
+    let run-line = c .before .before .before .run-line in
+    due-holds _ _ _ _ _ _ (loop-test .taken) (line-at .ensures) (counted .ensures) (run-line .ensures) (c .enum-told .given .1) ∙ sym (loop .inv .2)
 
 enum-known-how : tie.Need-enum-known-how Inv-loop μ-loop
 enum-known-how c = search needs
@@ -47,22 +56,48 @@ stopped-requires : tie.Need-stopped-requires Inv-loop μ-loop
 stopped-requires c κs = search needs
 
 returns-2 : tie.Need-returns-2 Inv-loop μ-loop
-returns-2 c = simp (c .stopped .ensures) (due-ends _ _ _ _ _ _ (c .before .before .before .before .before .before .before .before .loop-test .taken) (c .before .before .before .before .before .before .before .line-at .ensures) (c .before .before .before .before .before .before .counted .ensures) (c .before .before .before .before .before .run-line .ensures) (c .before .before .how .given .1) ∙ sym (c .before .before .before .before .before .before .before .before .before .loop .inv .2))
+returns-2 c =
+    let loop = c .before .before .before .before .before .before .before .before .before .loop in
+    let loop-test = c .before .before .before .before .before .before .before .before .loop-test in
+    let line-at = c .before .before .before .before .before .before .before .line-at in
+    let counted = c .before .before .before .before .before .before .counted in
+    let run-line = c .before .before .before .before .before .run-line in
+    let how = c .before .before .how in
+    simp (c .stopped .ensures)
+    (due-ends _ _ _ _ _ _ (loop-test .taken) (line-at .ensures) (counted .ensures) (run-line .ensures) (how .given .1) ∙ sym (loop .inv .2))
 
 enum-told-2 : tie.Need-enum-told-2 Inv-loop μ-loop
 enum-told-2 c = search needs
 
 loop-less : tie.Need-loop-less Inv-loop μ-loop
-loop-less c = let one = due-one _ _ _ _ _ _ (c .before .before .before .before .before .before .loop-test .taken) (c .before .before .before .before .before .line-at .ensures) (c .before .before .before .before .counted .ensures) (c .before .before .before .run-line .ensures) (c .enum-told2 .given .1) in search needs
+loop-less c =
+    let loop-test = c .before .before .before .before .before .before .loop-test in
+    let line-at = c .before .before .before .before .before .line-at in
+    let counted = c .before .before .before .before .counted in
+    let run-line = c .before .before .before .run-line in
+    let one = due-one _ _ _ _ _ _ (loop-test .taken) (line-at .ensures) (counted .ensures) (run-line .ensures) (c .enum-told2 .given .1) in
+    search needs
 
 loop-again : tie.Need-loop-again Inv-loop μ-loop
-loop-again c = let one = due-one _ _ _ _ _ _ (c .before .before .before .before .before .before .loop-test .taken) (c .before .before .before .before .before .line-at .ensures) (c .before .before .before .before .counted .ensures) (c .before .before .before .run-line .ensures) (c .enum-told2 .given .1) in (search needs, due-going _ _ _ _ _ _ (c .before .before .before .before .before .before .loop-test .taken) (c .before .before .before .before .before .line-at .ensures) (c .before .before .before .before .counted .ensures) (c .before .before .before .run-line .ensures) (c .before .before .before .before .before .before .before .loop .inv .1), c .before .before .before .before .before .before .before .loop .inv .2 ∙ due-goes-on _ _ _ _ _ _ (c .before .before .before .before .before .before .loop-test .taken) (c .before .before .before .before .before .line-at .ensures) (c .before .before .before .before .counted .ensures) (c .before .before .before .run-line .ensures) (c .enum-told2 .given .1))
+loop-again c =
+    let loop = c .before .before .before .before .before .before .before .loop in
+    let loop-test = c .before .before .before .before .before .before .loop-test in
+    let line-at = c .before .before .before .before .before .line-at in
+    let counted = c .before .before .before .before .counted in
+    let run-line = c .before .before .before .run-line in
+    let one = due-one _ _ _ _ _ _ (loop-test .taken) (line-at .ensures) (counted .ensures) (run-line .ensures) (c .enum-told2 .given .1) in (
+      search needs,
+      due-going _ _ _ _ _ _ (loop-test .taken) (line-at .ensures) (counted .ensures) (run-line .ensures) (loop .inv .1),
+      loop .inv .2 ∙ due-goes-on _ _ _ _ _ _ (loop-test .taken) (line-at .ensures) (counted .ensures) (run-line .ensures) (c .enum-told2 .given .1),
+    )
 
 last-due-requires : tie.Need-last-due-requires Inv-loop μ-loop
 last-due-requires c κs = (c .before .before .before .pre .0, still (c .before .loop .inv .1))
 
 returns-3 : tie.Need-returns-3 Inv-loop μ-loop
-returns-3 c = c .last-due .ensures ∙ all-counted _ _ _ (c .before .loop-test .left) ∙ sym (c .before .before .loop .inv .2)
+returns-3 c =
+    let loop = c .before .before .loop in
+    c .last-due .ensures ∙ all-counted _ _ _ (c .before .loop-test .left) ∙ sym (loop .inv .2)
 
 pub run-due-spec : {M : Type 1} → statement M
 run-due-spec =

@@ -30,33 +30,49 @@ next-after-requires c κs = search needs
 
 returns-2 : tie.Need-returns-2
 unfolding runLine
-returns-2 c = simp (le-ltb _ _ (c .before .before .if1 .left), eq-eqb _ _ (sym (c .before .next-after .ensures) ∙ c .if2 .taken))
+returns-2 c =
+    let if1 = c .before .before .if1 in
+    simp (le-ltb _ _ (if1 .left), eq-eqb _ _ (sym (c .before .next-after .ensures) ∙ c .if2 .taken))
 
 mul-t22 : tie.Need-mul-t22
 mul-t22 c = search needs
 
 element-set-from-self : tie.Need-element-set-from-self
-element-set-from-self c = omega (arith, counter-range (c .before .before .before .before .before .before .args .counter) (c .before .before .before .before .before .before .pre .2))
+element-set-from-self c =
+    let args = c .before .before .before .before .before .before .args in
+    let pre = c .before .before .before .before .before .before .pre in
+    omega (arith, counter-range (args .counter) (pre .2))
 
 onward-requires : tie.Need-onward-requires
 onward-requires c κs = search needs
 
 returns-3 : tie.Need-returns-3
 unfolding runLine
-returns-3 c = simp (c .onward .ensures, le-ltb _ _ (c .before .before .before .before .if1 .left), ne-eqb _ _ (λ e. c .before .before .if2 .left (c .before .before .before .next-after .ensures ∙ e)), eq-eqb _ _ (c .before .if3 .taken))
+returns-3 c =
+    let if1 = c .before .before .before .before .if1 in
+    let next-after = c .before .before .before .next-after in
+    let if2 = c .before .before .if2 in
+    simp (c .onward .ensures, le-ltb _ _ (if1 .left), ne-eqb _ _ (λ e. if2 .left (next-after .ensures ∙ e)), eq-eqb _ _ (c .before .if3 .taken))
 
 mul-t12 : tie.Need-mul-t12
 mul-t12 c = search needs
 
 element-set-from-self-2 : tie.Need-element-set-from-self-2
-element-set-from-self-2 c = omega (arith, counter-range (c .before .before .before .before .before .before .args .counter) (c .before .before .before .before .before .before .pre .2))
+element-set-from-self-2 c =
+    let args = c .before .before .before .before .before .before .args in
+    let pre = c .before .before .before .before .before .before .pre in
+    omega (arith, counter-range (args .counter) (pre .2))
 
 onward-requires-2 : tie.Need-onward-requires-2
 onward-requires-2 c κs = search needs
 
 returns-4 : tie.Need-returns-4
 unfolding runLine
-returns-4 c = simp (c .onward2 .ensures, le-ltb _ _ (c .before .before .before .before .if1 .left), ne-eqb _ _ (λ e. c .before .before .if2 .left (c .before .before .before .next-after .ensures ∙ e)), ne-eqb _ _ (c .before .if3 .left))
+returns-4 c =
+    let if1 = c .before .before .before .before .if1 in
+    let next-after = c .before .before .before .next-after in
+    let if2 = c .before .before .if2 in
+    simp (c .onward2 .ensures, le-ltb _ _ (if1 .left), ne-eqb _ _ (λ e. if2 .left (next-after .ensures ∙ e)), ne-eqb _ _ (c .before .if3 .left))
 
 pub run-for-spec : {M : Type 1} → statement M
 run-for-spec =

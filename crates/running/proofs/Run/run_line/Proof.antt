@@ -17,25 +17,38 @@ enum-known-line-2 : tie.Need-enum-known-line-2
 enum-known-line-2 c = search needs
 
 run-for-requires : tie.Need-run-for-requires
-run-for-requires c κs = (c .before .before .before .before .pre .0, c .before .before .before .before .pre .1 .lineInProgram, for-counter _ _ (sym (c .before .before .before .before .pre .2) ∙ c .before .line2 .given .1))
+run-for-requires c κs =
+    let pre = c .before .before .before .before .pre in
+    (pre .0, pre .1 .lineInProgram, for-counter _ _ (sym (pre .2) ∙ c .before .line2 .given .1))
 
 enum-known-line-3 : tie.Need-enum-known-line-3
 enum-known-line-3 c = search needs
 
 run-next-requires : tie.Need-run-next-requires
-run-next-requires c κs = (c .before .before .before .before .pre .1, next-counter _ _ (sym (c .before .before .before .before .pre .2) ∙ c .before .line3 .given .1))
+run-next-requires c κs =
+    let pre = c .before .before .before .before .pre in
+    (pre .1, next-counter _ _ (sym (pre .2) ∙ c .before .line3 .given .1))
 
 returns : tie.Need-returns
 unfolding step runLine
-returns c = simp (c .run-state .ensures, sym (c .before .before .before .before .before .pre .2) ∙ c .before .before .line .given .1)
+returns c =
+    let pre = c .before .before .before .before .before .pre in
+    let the-line = c .before .before .line in
+    simp (c .run-state .ensures, sym (pre .2) ∙ the-line .given .1)
 
 returns-2 : tie.Need-returns-2
 unfolding step runLine
-returns-2 c = simp (c .run-for .ensures, sym (c .before .before .before .before .before .pre .2) ∙ c .before .before .line2 .given .1)
+returns-2 c =
+    let pre = c .before .before .before .before .before .pre in
+    let line2 = c .before .before .line2 in
+    simp (c .run-for .ensures, sym (pre .2) ∙ line2 .given .1)
 
 returns-3 : tie.Need-returns-3
 unfolding step runLine
-returns-3 c = simp (c .run-next .ensures, sym (c .before .before .before .before .before .pre .2) ∙ c .before .before .line3 .given .1)
+returns-3 c =
+    let pre = c .before .before .before .before .before .pre in
+    let line3 = c .before .before .line3 in
+    simp (c .run-next .ensures, sym (pre .2) ∙ line3 .given .1)
 
 pub run-line-spec : {M : Type 1} → statement M
 run-line-spec =

@@ -3,9 +3,9 @@
 use Prim.Native.Nat.{_-_}
 use native.Mathlib.Omega.{arith}
 use borrow.Author.Tests.{eq-eqb, ne-eqb, lt-ltb, le-ltb}
-use borrow.Author.Needs.{needs}
 use Rattle.running.proofs.Turns.{counter-range}
 use Rattle.running.specs.Running.{runLine}
+use borrow.Author.Needs.{needs}
 use Rattle.running.proofs.Run.run_next.Statement.{statement}
 use Rattle.running.proofs.Run.run_next.Tie as tie
 
@@ -28,11 +28,14 @@ returns c = simp (eq-eqb _ _ (c .if1 .taken))
 sub-left : tie.Need-sub-left
 sub-left c = search needs
 
-mul-t18 : tie.Need-mul-t18
-mul-t18 c = search needs
+mul-t19 : tie.Need-mul-t19
+mul-t19 c = search needs
 
 element-set-from-self : tie.Need-element-set-from-self
-element-set-from-self c = omega (arith, counter-range (c .before .before .before .args .counter) (c .before .before .before .pre .1))
+element-set-from-self c =
+    let args = c .before .before .before .args in
+    let pre = c .before .before .before .pre in
+    omega (arith, counter-range (args .counter) (pre .1))
 
 add-self : tie.Need-add-self
 add-self c = omega (arith, c .before .before .before .pre .0 .forLine (c .before .before .before .args .counter - 1))
@@ -41,18 +44,27 @@ returns-2 : tie.Need-returns-2
 unfolding runLine
 returns-2 c = simp (ne-eqb _ _ (c .before .if1 .left), lt-ltb _ _ (c .if2 .taken))
 
-mul-t10 : tie.Need-mul-t10
-mul-t10 c = search needs
+free-requires : tie.Need-free-requires
+free-requires c κs = search needs
 
-element-set-from-self-2 : tie.Need-element-set-from-self-2
-element-set-from-self-2 c = omega (arith, counter-range (c .before .before .before .args .counter) (c .before .before .before .pre .1))
+mul-none : tie.Need-mul-none
+mul-none c = search needs
+
+element-set-from-none : tie.Need-element-set-from-none
+element-set-from-none c =
+    let args = c .before .before .before .before .args in
+    let pre = c .before .before .before .before .pre in
+    omega (arith, counter-range (args .counter) (pre .1))
 
 onward-requires : tie.Need-onward-requires
 onward-requires c κs = search needs
 
 returns-3 : tie.Need-returns-3
 unfolding runLine
-returns-3 c = simp (c .onward .ensures, ne-eqb _ _ (c .before .before .if1 .left), le-ltb _ _ (c .before .if2 .left))
+returns-3 c =
+    let if1 = c .before .before .before .if1 in
+    let if2 = c .before .before .if2 in
+    simp (c .onward .ensures, c .before .free .ensures, ne-eqb _ _ (if1 .left), le-ltb _ _ (if2 .left))
 
 pub run-next-spec : {M : Type 1} → statement M
 run-next-spec =
@@ -64,11 +76,12 @@ run-next-spec =
     element-copy-out-held
     returns
     sub-left
-    mul-t18
+    mul-t19
     element-set-from-self
     add-self
     returns-2
-    mul-t10
-    element-set-from-self-2
+    free-requires
+    mul-none
+    element-set-from-none
     onward-requires
     returns-3)

@@ -36,16 +36,40 @@ enum-told-2 : tie.Need-enum-told-2
 enum-told-2 c = search needs
 
 run-due-requires : tie.Need-run-due-requires
-run-due-requires c κs = let g = tick-going (c .before .before .before .before .before .before .before .args .p .now) _ _ (not-false (c .before .before .before .before .before .before .before .args .self .on) (c .before .before .before .before .before .if1 .left)) (c .before .before .before .before .if2 .left) (c .before .before .before .onward .ensures) (goes-on _ (not-false (c .before .before .before .before .before .before .before .args .self .on) (c .before .before .before .before .before .if1 .left)) (c .before .before .before .before .before .before .before .pre .1)) in (c .before .before .before .before .before .before .before .pre .0, g .on, still g)
+run-due-requires c κs =
+    let args = c .before .before .before .before .before .before .before .args in
+    let pre = c .before .before .before .before .before .before .before .pre in
+    let if1 = c .before .before .before .before .before .if1 in
+    let if2 = c .before .before .before .before .if2 in
+    let onward = c .before .before .before .onward in
+    let g = tick-going (args .p .now) _ _ (not-false (args .self .on) (if1 .left)) (if2 .left) (onward .ensures)
+    (goes-on _ (not-false (args .self .on) (if1 .left)) (pre .1)) in
+    (pre .0, g .on, still g)
 
 returns-3 : tie.Need-returns-3
-returns-3 c = tick-holds _ _ _ (not-false (c .before .before .before .before .before .before .before .args .self .on) (c .before .before .before .before .before .if1 .left)) (c .before .before .before .before .if2 .left) (c .before .before .before .onward .ensures) (c .enum-told .given .1)
+returns-3 c =
+    let args = c .before .before .before .before .before .before .before .args in
+    let if1 = c .before .before .before .before .before .if1 in
+    let if2 = c .before .before .before .before .if2 in
+    let onward = c .before .before .before .onward in
+    tick-holds _ _ _ (not-false (args .self .on) (if1 .left)) (if2 .left) (onward .ensures) (c .enum-told .given .1)
 
 returns-4 : tie.Need-returns-4
-returns-4 c = simp (c .stopped .ensures) (tick-ends _ _ _ (not-false (c .before .before .before .before .before .before .before .before .before .args .self .on) (c .before .before .before .before .before .before .before .if1 .left)) (c .before .before .before .before .before .before .if2 .left) (c .before .before .before .before .before .onward .ensures) (c .before .before .how .given .1))
+returns-4 c =
+    let args = c .before .before .before .before .before .before .before .before .before .args in
+    let if1 = c .before .before .before .before .before .before .before .if1 in
+    let if2 = c .before .before .before .before .before .before .if2 in
+    let onward = c .before .before .before .before .before .onward in
+    let how = c .before .before .how in
+    simp (c .stopped .ensures) (tick-ends _ _ _ (not-false (args .self .on) (if1 .left)) (if2 .left) (onward .ensures) (how .given .1))
 
 returns-5 : tie.Need-returns-5
-returns-5 c = c .run-due .ensures ∙ tick-runs _ _ _ (not-false (c .before .before .before .before .before .before .before .before .args .self .on) (c .before .before .before .before .before .before .if1 .left)) (c .before .before .before .before .before .if2 .left) (c .before .before .before .before .onward .ensures) (c .before .enum-told2 .given .1)
+returns-5 c =
+    let args = c .before .before .before .before .before .before .before .before .args in
+    let if1 = c .before .before .before .before .before .before .if1 in
+    let if2 = c .before .before .before .before .before .if2 in
+    let onward = c .before .before .before .before .onward in
+    c .run-due .ensures ∙ tick-runs _ _ _ (not-false (args .self .on) (if1 .left)) (if2 .left) (onward .ensures) (c .before .enum-told2 .given .1)
 
 pub tick-spec : {M : Type 1} → statement M
 tick-spec =

@@ -1,0 +1,22 @@
+-- The answers of the readers of a number, and a text of the code: what each stands for.
+use Prim.Native.Nat.{ℕ}
+use mathlib.Core.List.{List}
+use lib.ListN.{take}
+use Rattle.formats.specs.Checks.{Res, refused, passed}
+use Rattle.formats.specs.declared.Number.{Number}
+use Rattle.formats.specs.declared.Number.the-variants.{Is, No}
+use Rattle.formats.specs.declared.Byte.{Byte}
+use Rattle.formats.specs.declared.Byte.the-variants.{Is as IsByte, Error}
+use Rattle.formats.specs.declared.Text.{Text}
+
+-- a number that was read; which error stands for none is the caller's to say
+abbrev pub numberOf : Res ℕ → Number
+numberOf (refused e) = No
+numberOf (passed v) = Is v
+
+abbrev pub byteOf : Res ℕ → Byte
+byteOf (refused e) = Error e
+byteOf (passed v) = IsByte v
+
+abbrev pub textOf : Text → List ℕ
+textOf t = take (t .len) (t .chars)

@@ -1,0 +1,22 @@
+-- Laws of a record: its layout and its length.
+-- Assumes nothing.
+use mathlib.Core.Path.{_≡_, refl}
+use Prim.Native.Nat.{ℕ}
+use mathlib.Core.List.{[], _∷_}
+use lib.ListN.{length}
+use Rattle.formats.specs.Digits.{digits}
+use Rattle.log.specs.declared.Change.{Change}
+use Rattle.log.specs.Record.{recordSize, recordOf, changeRecord, gapRecord}
+
+-- the layout, byte by byte: mark, kind, cause, tick and value, high byte first
+layout : recordOf 1 254 0x01020304 0xA0B0C0D0 ≡ 0x1E ∷ 0xE1 ∷ 1 ∷ 254 ∷ 1 ∷ 2 ∷ 3 ∷ 4 ∷ 0xA0 ∷ 0xB0 ∷ 0xC0 ∷ 0xD0 ∷ []
+unfolding recordOf digits
+layout = refl
+
+pub length-change : (c : Change) → length (changeRecord c) ≡ recordSize
+unfolding changeRecord recordOf digits
+length-change c = refl
+
+pub length-gap : (tick lost : ℕ) → length (gapRecord tick lost) ≡ recordSize
+unfolding gapRecord recordOf digits
+length-gap tick lost = refl

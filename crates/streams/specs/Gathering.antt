@@ -1,0 +1,32 @@
+-- Output that is gathered in a block before it goes out.
+use mathlib.Core.Bool.{true}
+use mathlib.Core.List.{List, [], _++_}
+use mathlib.Core.Path.{_≡_}
+use Prim.Native.Nat.{ℕ, _+_, _≤_}
+use lib.Dec.{leb}
+use lib.ListN.{length, take}
+use Rattle.formats.specs.Checks.{if_then_else_}
+use Rattle.io.specs.Digits.{digits, Fewest}
+use Rattle.streams.specs.declared.Output.{Output}
+
+-- the bytes that wait in the block
+abbrev pub gathered : Output → List ℕ → List ℕ
+gathered o block = take (o .used) block
+
+-- what waits in a block of a size after more bytes: they follow what waited, where they fit; else that goes out and they wait alone; and
+-- where they are longer than the block, they go out too
+unfoldable pub waitsAfter : ℕ → List ℕ → List ℕ → List ℕ
+waitsAfter size waited bytes =
+    if leb (length waited + length bytes) size then waited ++ bytes
+    else if leb (length bytes) size then bytes
+    else []
+
+-- what putting bytes does; no output that failed is open again
+pub record Puts (o : Output) (block bytes : List ℕ) (r : Output) (block′ : List ℕ) : Type 0 where
+  pub inside : r .used ≤ length block′
+  pub waits : gathered r block′ ≡ waitsAfter (length block) (gathered o block) bytes
+  pub failed : r .open ≡ true → o .open ≡ true
+
+-- what putting a number does: its decimal digits, the fewest that hold it
+abbrev pub PutsNumber : Output → List ℕ → ℕ → Output → List ℕ → Type 0
+PutsNumber o block v r block′ = (k : ℕ) × Fewest 10 1 v k × Puts o block (digits 10 k v) r block′

@@ -1,0 +1,149 @@
+// Standard input and output for programs: input is read to its end, and output is gathered in a block that the program lends.
+// What is gathered goes out where the next bytes do not fit behind it, and where the program asks, as before it waits for input.
+// Definitions: specs/Gathering.antt. Which bytes a read or a write moves is in no contract, since C's have none.
+ghost use mathlib.Core.Bool.{true};
+ghost use mathlib.Core.List.{[], _∷_, _++_};
+ghost use mathlib.Core.Path.{_≡_};
+ghost use lib.ListN.{take};
+ghost use Rattle.formats.specs.Digits.{errorText};
+ghost use Rattle.io.specs.Counts.{Counts};
+ghost use Rattle.streams.specs.Gathering.{gathered, Puts, PutsNumber};
+use libc::STDIN_FILENO;
+use libc::STDOUT_FILENO;
+
+// The state of standard output. The block that goes with it is lent to each call.
+pub struct Output {
+    // how many bytes at the start of the block are gathered
+    pub used: usize,
+    // no write has failed; once one has, nothing more is written
+    pub open: bool,
+}
+
+// ---- input
+
+// Input is read once, as much as there is. 0 at its end; and where the read failed, which is told on standard error.
+pub fn read_some(input: &mut [u8]) -> usize
+    ensures counts { λ r. ⌜ Counts r (now (input .exit)) ⌝ }
+{
+    let got = libc::read(STDIN_FILENO, input);
+    if got < 0 {
+        os::fail(&[b'r', b'e', b'a', b'd']);
+        return 0;
+    }
+    io::count(got, input)
+}
+
+// Input is read until the buffer is full or there is no more, which is also so after a read that failed.
+pub fn read_whole(buffer: &mut [u8]) -> usize
+    ensures counts { λ r. ⌜ Counts r (now (buffer .exit)) ⌝ }
+{
+    let mut n: usize = 0;
+    while n < buffer.len() {
+        let more = read_some(&mut buffer[n..]);
+        if more == 0 {
+            return n;
+        }
+        n += more;
+    }
+    n
+}
+
+// ---- output
+
+impl Output {
+    // Nothing is gathered.
+    pub fn new() -> Output
+        ensures empty { λ r. ⌜ (r .used ≡ 0) × (r .open ≡ true) ⌝ }
+    {
+        Output {
+            used: 0,
+            open: true,
+        }
+    }
+
+    // How many bytes of the block are gathered.
+    fn held(self, block: &[u8]) -> usize
+        ensures counts { λ r. ⌜ (Counts r (now (block .entry))) × (take r (now (block .entry)) ≡ gathered self (now (block .entry))) ⌝ }
+    {
+        let used = self.used;
+        if used <= block.len() {
+            return used;
+        }
+        block.len()
+    }
+
+    // Bytes are written, all of them, where no write has failed before. Nothing is gathered any more.
+    fn sent(self, bytes: &[u8]) -> Output
+        ensures empty { λ r. ⌜ (r .used ≡ 0) × (r .open ≡ true → self .open ≡ true) ⌝ }
+    {
+        if self.open {
+            let open = io::write_all(STDOUT_FILENO, bytes);
+            return Output { used: 0, open };
+        }
+        Output {
+            used: 0,
+            open: false,
+        }
+    }
+
+    // What is gathered goes out.
+    pub fn flushed(self, block: &[u8]) -> Output
+        ensures empty { λ r. ⌜ (r .used ≡ 0) × (r .open ≡ true → self .open ≡ true) ⌝ }
+    {
+        let n = self.held(block);
+        self.sent(&block[..n])
+    }
+
+    // Bytes are gathered behind what is there. Where they do not fit, that goes out first; bytes longer than the block go out at once.
+    pub fn put(self, block: &mut [u8], bytes: &[u8]) -> Output
+        ensures puts { λ r. ⌜ Puts self (now (block .entry)) (now (bytes .entry)) r (now (block .exit)) ⌝ }
+    {
+        let n = bytes.len();
+        let at = self.held(block);
+        if n <= block.len() - at {
+            formats::copy(bytes, &mut block[at..], n);
+            return Output {
+                used: at + n,
+                open: self.open,
+            };
+        }
+        let out = self.flushed(block);
+        if n <= block.len() {
+            formats::copy(bytes, block, n);
+            return Output {
+                used: n,
+                open: out.open,
+            };
+        }
+        out.sent(bytes)
+    }
+
+    // The first n bytes are gathered, all where there are fewer.
+    pub fn put_first(self, block: &mut [u8], bytes: &[u8], n: usize) -> Output
+        ensures puts { λ r. ⌜ Puts self (now (block .entry)) (take n (now (bytes .entry))) r (now (block .exit)) ⌝ }
+    {
+        if n <= bytes.len() {
+            return self.put(block, &bytes[..n]);
+        }
+        self.put(block, bytes)
+    }
+
+    // A number is gathered, in decimal digits and no more of them than it has.
+    pub fn put_number(self, block: &mut [u8], v: u64) -> Output
+        ensures puts { λ r. ⌜ PutsNumber self (now (block .entry)) v r (now (block .exit)) ⌝ }
+    {
+        let mut digits = [0u8; 20];
+        let n = io::decimal(v, &mut digits);
+        self.put(block, &digits[..n])
+    }
+
+    // A refusal is gathered: E, its number in three digits, and the byte that ends a line.
+    pub fn put_error(self, block: &mut [u8], e: u8, end: u8) -> Output
+        ensures puts { λ r. ⌜ Puts self (now (block .entry)) (errorText e ++ (end ∷ [])) r (now (block .exit)) ⌝ }
+    {
+        let line = formats::error_text(e).with(end);
+        let chars = line.chars;
+        let n = line.len;
+        self.put_first(block, &chars, n)
+    }
+}

@@ -1,9 +1,0 @@
--- What the types of the code stand for.
-use Rattle.formats.specs.Checks.{Res, refused, passed}
-use Rattle.lines.specs.declared.Line.{Line}
-use Rattle.texts.specs.declared.Parsed.{Parsed}
-use Rattle.texts.specs.declared.Parsed.the-variants.{Is, Error}
-
-abbrev pub parsedOf : Res Line → Parsed
-parsedOf (refused e) = Error e
-parsedOf (passed l) = Is l
