@@ -109,7 +109,7 @@ static void ticks(uint32_t count) {
             check("a tick", 0, 1);
 }
 
-static void press(uint8_t button) {
+static void press(uint32_t button) {
     moment = button == 1 ? "Start/Stop" : "Pause";
     check_said(nizhalepu_press(&box.record, button, program, sizeof program, log_area, LOG), 0, 0, 0);
 }
@@ -334,6 +334,9 @@ static void test_said_and_ticks(void) {
     check_said(nizhalepu_byte(&box.record, 13, program, 1600, saved, 1600, log_area, LOG - 1, reply, 16), 31, 0, 0);
     check_said(nizhalepu_byte(&box.record, 13, program, 1600, saved, 1600, log_area, LOG, reply, 15), 32, 0, 0);
     check_said(nizhalepu_press(&box.record, 3, program, 1600, log_area, LOG), 34, 0, 0);
+    /* These would be 1 and 2 if the archive took fewer bits of a button than the header says. */
+    check_said(nizhalepu_press(&box.record, 0x101, program, 1600, log_area, LOG), 34, 0, 0);
+    check_said(nizhalepu_press(&box.record, 0x10002, program, 1600, log_area, LOG), 34, 0, 0);
     check_record("refused calls");
     command("CW20601", "OK", 0);
     moment = "a short destination";

@@ -126,8 +126,8 @@ struct nizhalepu_said nizhalepu_tick(struct nizhalepu_record *record,
                                      const uint8_t *program, size_t program_length,
                                      uint8_t *log, size_t log_length);
 
-/* One press: button 1 is Start/Stop, button 2 is Pause. */
-struct nizhalepu_said nizhalepu_press(struct nizhalepu_record *record, uint8_t button,
+/* One press: button 1 is Start/Stop, button 2 is Pause; every other number of 32 bits is refused. */
+struct nizhalepu_said nizhalepu_press(struct nizhalepu_record *record, uint32_t button,
                                       const uint8_t *program, size_t program_length,
                                       uint8_t *log, size_t log_length);
 

@@ -17,7 +17,7 @@ static const char usage[] =
     "  byte B P S L Y    one byte from the wire      -> R LINES LEN HEX\n"
     "  tick P L          one tick                    -> R LINES\n"
     "  ticks N P L       N ticks                     -> R LINES (the last refusal, all lines)\n"
-    "  press N P L       button N                    -> R LINES\n"
+    "  press N P L       button N, to 4294967295     -> R LINES\n"
     "  empty L D         emptying the log            -> R COUNT\n"
     "  set AREA AT HEX   the caller alters an area   -> ok\n"
     "  get AREA AT N     N bytes of an area          -> HEX\n"
@@ -190,10 +190,10 @@ static bool do_ticks(struct text *line) {
 static bool do_press(struct text *line) {
     uint64_t button;
     size_t p, l;
-    if (!read_number(line, UINT8_MAX, &button) || !read_length(line, sizeof program, &p) ||
+    if (!read_number(line, UINT32_MAX, &button) || !read_length(line, sizeof program, &p) ||
         !read_length(line, sizeof log_area, &l) || !at_end(line))
         return false;
-    print_lines(nizhalepu_press(&record, (uint8_t)button, program, p, log_area, l));
+    print_lines(nizhalepu_press(&record, (uint32_t)button, program, p, log_area, l));
     return true;
 }
 

@@ -154,7 +154,7 @@ static bool is_command(const char *name) {
 
 static bool take_command(void) {
     if (is_command("1") || is_command("2")) {
-        uint8_t button = (uint8_t)(commands.text[0] - '0');
+        uint32_t button = (uint32_t)(commands.text[0] - '0');
         return accepted("a press", nizhalepu_press(&record, button, program, sizeof program, log_area, log_length)) && keep_room();
     }
     if (is_command("empty")) {

@@ -20,7 +20,7 @@ struct box_said box_power_on(struct box *box, uint8_t *program, size_t program_l
 struct box_said box_byte(struct box *box, uint8_t byte, uint8_t *program, size_t program_length, uint8_t *saved, size_t saved_length,
                          uint8_t *log, size_t log_length, uint8_t *reply, size_t reply_length);
 struct box_said box_tick(struct box *box, const uint8_t *program, size_t program_length, uint8_t *log, size_t log_length);
-struct box_said box_press(struct box *box, uint8_t button, const uint8_t *program, size_t program_length, uint8_t *log, size_t log_length);
+struct box_said box_press(struct box *box, uint32_t button, const uint8_t *program, size_t program_length, uint8_t *log, size_t log_length);
 struct box_said box_empty(struct box *box, const uint8_t *log, size_t log_length, uint8_t *destination, size_t destination_length);
 
 #endif

@@ -92,21 +92,26 @@ def tick_refused():
 
 @scenario
 def press_refused():
-    # 030, 031, 034 "button number other than 1 or 2"; a refused press starts and pauses nothing.
+    # 030, 031, 034 "button number other than 1 or 2", also one that is 1 or 2 when cut to 8 or to 16 bits; a refused press starts
+    # and pauses nothing.
     fresh("53000000 00010002", log=36)
     for wrong, button, number in (({"program": 1599}, 1, 30), ({"program": 1601}, 2, 30), ({"log": 23}, 1, 31), ({}, 3, 34),
                                   ({"log": 65537}, 2, 31), ({"log": 24}, 1, 31), ({}, 0, 34), ({}, 255, 34),
                                   ({"program": 1599, "log": 24}, 1, 30), ({"program": 1601}, 3, 30),
-                                  ({"log": 35}, 0, 31), ({"program": 1601, "log": 23}, 255, 30)):
+                                  ({"log": 35}, 0, 31), ({"program": 1601, "log": 23}, 255, 30), ({}, 256, 34), ({}, 257, 34),
+                                  ({}, 258, 34), ({}, 65536, 34), ({}, 65537, 34), ({}, 65538, 34), ({}, 16777215, 34),
+                                  ({"program": 1599}, 257, 30), ({"log": 24}, 65537, 31)):
         lend(**wrong)
         press(button, number)
         lend(1600, 1600, 36)
     say("CR201", "80")
     lend(saved=0, out=0)
     press(1)
-    press(0, 34)
+    for button in (0, 3, 257, 258, 65537, 65538):
+        press(button, 34)
     press(2)
-    press(255, 34)
+    for button in (255, 256, 257, 258, 65538, 16711682):
+        press(button, 34)
     lend(saved=1600, out=16)
     say("CR201", "83")
 

@@ -1,8 +1,9 @@
 """How a scenario of the program `trials` speaks to the model: what is lent, altered and called.
 
 Each record of the input is four bytes, op x hi lo.  P S L R lend the first n bytes of the program,
-saved, log and out buffers; A V G alter one byte of the program, saved and log buffers; o b t n e are
-the five calls.  Each call prints its refusal number, For and Next lines run, bytes written, a sum of
+saved, log and out buffers, where n stands in the last three bytes; A V G alter one byte of the program,
+saved and log buffers; o b t n e are the five calls, b with byte x, n with the button that stands in the
+last three bytes.  Each call prints its refusal number, For and Next lines run, bytes written, a sum of
 each whole buffer, and the bytes written.  What stands beside a call is read from document 01 and is
 asserted against the model in areas.py.
 """
@@ -37,11 +38,15 @@ def record(op, x=0, low=0):
     sent.extend((ord(op), x, low >> 8, low & 255))
 
 
+def numbered(op, number):
+    record(op, number >> 16, number & 65535)
+
+
 def lend(program=None, saved=None, log=None, out=None):
     """Lend that many bytes from now on; a number above the buffer is ignored."""
     for k, n in enumerate((program, saved, log, out)):
         if n is not None:
-            record("PSLR"[k], n >> 16, n & 65535)
+            numbered("PSLR"[k], n)
             lent[k] = n if n <= SIZES[k] else lent[k]
 
 
@@ -60,7 +65,7 @@ def stands(which, at, data):
 
 
 def call(op, x, expected):
-    record(op, x)
+    (numbered if op == "n" else record)(op, x)
     areas = [buffer[:n] for buffer, n in zip(buffers, lent)]
     program, saved, log, out = areas
     refusal, lines, written = {

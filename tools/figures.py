@@ -7,6 +7,8 @@ Usage: python3 tools/figures.py [--gate]
 Each crate is proved in a copy of the repository, one at a time, over those below it. With --gate the gate (.ci/run) is run in the copy
 too and its time and last line are written; without it the paper keeps the line that it has.
 
+What the paper says of wrong definitions is kept: it is written by hand, from the last line of tools/wrong_definitions.py.
+
 With --since nothing is proved or written: it prints the lines added and removed since the revision, by kind, as docs/CHANGES.md has
 them for each landing. All lines count, blank ones and comments too; a file that only moved counts for what changed in it."""
 import glob
@@ -72,12 +74,17 @@ def gate_line(folder):
         said = subprocess.run(['.ci/run'], cwd=folder, stdout=subprocess.PIPE, stderr=subprocess.STDOUT, text=True).stdout
         minutes = (time.monotonic() - start) / 60
         return f'The gate takes {minutes:.0f} minutes on two cores and ends in `{said.strip().splitlines()[-1]}`.'
+    return kept('The gate takes') or 'The gate was not run for this paper.'
+
+
+def kept(start):
+    """the paragraph of the paper as it stands that begins so, or nothing"""
     if os.path.exists(PAPER):
         with open(PAPER) as file:
-            kept = [line.strip() for line in file if line.startswith('The gate takes')]
-        if kept:
-            return kept[0]
-    return 'The gate was not run for this paper.'
+            for paragraph in file.read().split('\n\n'):
+                if paragraph.startswith(start):
+                    return paragraph.strip()
+    return ''
 
 
 HEAD = '''# Figures
@@ -108,11 +115,13 @@ def main():
     for column in ('assumptions', 'megabytes'):
         total[column] = max(row[column] for row in each)
     rows['**all**'] = total
+    wrong = kept('Wrong definitions')
     with open(PAPER, 'w') as out:
         out.write(HEAD + '| Crate | ' + ' | '.join(COLUMNS) + ' |\n|---' + '|---:' * len(COLUMNS) + '|\n')
         for crate, row in rows.items():
             out.write(f'| {crate} | ' + ' | '.join(f'{row[column]:.0f}' for column in COLUMNS) + ' |\n')
         out.write(f'\nIn the last row assumptions and megabytes are the most of any crate.\n\n{gate}\n\n')
+        out.write(''.join(f'{paragraph}\n\n' for paragraph in [wrong] if paragraph))
         out.write(outside())
 
 

@@ -37,7 +37,9 @@ use Rattle.nizhalepu.proofs.Said as S
 use Rattle.nizhalepu.proofs.Said.Laws as S′
 use Rattle.nizhalepu.proofs.MachineValues.{vals, said, said-val}'''
 
-MUT, SHR, NUM = 'mut', 'shr', 'num'  # a `&mut [u8]`, a `&[u8]`, a byte
+MUT, SHR = 'mut', 'shr'      # a `&mut [u8]`, a `&[u8]`
+BITS = {'u8': 8, 'u32': 32}  # a number, by its type, and the bits that it has
+U8, U32 = BITS
 
 
 def tuple_of(parts):
@@ -135,9 +137,8 @@ class Walk:
     def __init__(self, name, uses, state, parameters, lent, call):
         self.name, self.uses, self.state, self.parameters, self.lent, self.call = name, uses, state, parameters, lent, call
         self.function = FUNCTION.format(call=name)
-        self.slices = [p for p, kind in self.parameters if kind != NUM]
+        self.slices = [p for p, kind in self.parameters if kind not in BITS]
         self.muts = [p for p, kind in self.parameters if kind == MUT]
-        self.numbers = [p for p, kind in self.parameters if kind == NUM]
         count = len(self.parameters)
         self.answer = count + 2                         # the local that takes the answer
         self.copy = count + 3 if self.state else None   # the local that takes the record's copy
@@ -154,15 +155,15 @@ class Walk:
         return before + 2 * (self.locals - 1 - local)
 
     def value(self, parameter, kind):
-        return f'vint w8 {parameter}' if kind == NUM else f'v-{parameter}'
+        return f'vint w{BITS[kind]} {parameter}' if kind in BITS else f'v-{parameter}'
 
     def passed(self, parameter, kind):
-        return parameter if kind == NUM else f'y-{parameter}'
+        return parameter if kind in BITS else f'y-{parameter}'
 
     def row(self, parameter, kind, shift):
         """the row of a parameter; the call's own lifetimes are numbered from 0, those here from 1, behind the record's"""
-        if kind == NUM:
-            return 'u8'
+        if kind in BITS:
+            return kind
         which = 'MutSlice' if kind == MUT else 'ShrSlice'
         return f'{which} (named {self.slices.index(parameter) + shift}) κ-{parameter} u8'
 
@@ -198,7 +199,7 @@ class Walk:
 {P}.Code as code
 
 abbrev Arg : Type 0
-Arg = {product_of([f'RefT {RECORD}'] + ['ℕ' if k == NUM else 'RefT (List ℕ)' for _, k in self.parameters])}
+Arg = {product_of([f'RefT {RECORD}'] + ['ℕ' if k in BITS else 'RefT (List ℕ)' for _, k in self.parameters])}
 
 -- the record stays lent, at its last value; what is passed on is given up
 abbrev stayed : Stays (f.ended .signature .params) (f.ended .kept)
@@ -211,8 +212,8 @@ module _ {MEMORY} (at-mem : Memory → SProp 𝓤) (run : Routine → Fun 𝓤) 
 '''
 
     def slot(self, parameter, kind):
-        if kind == NUM:
-            return '(plain (λ _. u8))'
+        if kind in BITS:
+            return f'(plain (λ _. {kind}))'
         return f'(shrSliceOf ({self.slices.index(parameter) + 1} ∷ []) tt (plain (λ _. u8)))'
 
     def stays(self, parameter, kind):
@@ -231,8 +232,8 @@ module _ {MEMORY} (at-mem : Memory → SProp 𝓤) (run : Routine → Fun 𝓤) 
         κs, qs = (' '.join([letter] + [f'{letter}-{p}' for p in slices]) for letter in 'κq')
         lines = [f'module _ {GIVEN}', f'    ({κs} : Lft) ({qs} : Share) (b o : ℕ) (γ : GName) (h : {RECORD})']
         for p, kind in self.parameters:
-            if kind == NUM:
-                lines.append(f'    ({p} : ℕ) (fits-{p} : {p} < 2 ^ 8)')
+            if kind in BITS:
+                lines.append(f'    ({p} : ℕ) (fits-{p} : {p} < 2 ^ {BITS[kind]})')
             else:
                 lines.append(f'    (b-{p} o-{p} : ℕ) (γ-{p} : GName) (ys-{p} : List ℕ) (room-{p} : Room u8 (length ys-{p}))')
         if self.state:
@@ -245,7 +246,7 @@ module _ {MEMORY} (at-mem : Memory → SProp 𝓤) (run : Routine → Fun 𝓤) 
   abbrev v-{p} : Val
   v-{p} = sliceVal (b-{p}, o-{p}) (length ys-{p})
 ''')
-        numbers = ['ℕ' if k == NUM else 'RefT (List ℕ)' for _, k in self.parameters]
+        numbers = ['ℕ' if k in BITS else 'RefT (List ℕ)' for _, k in self.parameters]
         values = [self.value(p, k) + ' ∷ []' for p, k in self.parameters]
         passed = [self.passed(p, k) for p, k in self.parameters]
         last = {p: f'zs-{p}' for p in self.muts}
@@ -372,7 +373,7 @@ module _ {MEMORY} (at-mem : Memory → SProp 𝓤) (run : Routine → Fun 𝓤) 
         return '\n'.join(out)
 
     def pass_one(self, p, kind):
-        typed = f'(tt, record {{ fits = fits-{p} }})' if kind == NUM else f'(tt, (tt, (record {{ fits = room-{p} .0 }}, tt)))'
+        typed = f'(tt, record {{ fits = fits-{p} }})' if kind in BITS else f'(tt, (tt, (record {{ fits = room-{p} .0 }}, tt)))'
         return f'pass1 ! (init ! {self.place(self.local_of(p))} refl {typed})'
 
     def out_of_the_record(self, say):
@@ -457,14 +458,14 @@ module _ {MEMORY} (at-mem : Memory → SProp 𝓤) (run : Routine → Fun 𝓤) 
     def closing(self):
         dots = lambda k: '.1 ' * k
         count = len(self.slices)
-        spells = tuple_of(['ptr-vals'] + ['uint-vals w8' if k == NUM else 'slice-vals' for _, k in self.parameters])
+        spells = tuple_of(['ptr-vals'] + [f'uint-vals w{BITS[k]}' if k in BITS else 'slice-vals' for _, k in self.parameters])
         tells = ['mut-tells (named 0) (κs .0) T.the-row']
         given = [f'(κs {dots(i)}.0)' for i in range(count + 1)] + [f'(qs {dots(i)}.0)' for i in range(count + 1)]
         given.append('(a .0 .ptr .0) (a .0 .ptr .1) (a .0 .name) (a .0 .now)')
         for i, (p, kind) in enumerate(self.parameters, 1):
             mine = f'a {dots(i)}.0'
-            if kind == NUM:
-                tells.append('uint-tells w8')
+            if kind in BITS:
+                tells.append(f'uint-tells w{BITS[kind]}')
                 given.append(f'({mine}) (are {dots(i)}.0 .1)')
             else:
                 n = self.slices.index(p) + 1

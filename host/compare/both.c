@@ -108,8 +108,8 @@ static struct said proved_call(struct both *both, const struct step *step)
     case POWER_ON:
         return of_proved(nizhalepu_power_on(record, area[PROGRAM], lent->program, area[SAVED], lent->saved, area[LOG], lent->log));
     case BYTE:
-        return of_proved(nizhalepu_byte(record, step->value, area[PROGRAM], lent->program, area[SAVED], lent->saved, area[LOG],
-                                        lent->log, area[REPLY], lent->other));
+        return of_proved(nizhalepu_byte(record, (uint8_t)step->value, area[PROGRAM], lent->program, area[SAVED], lent->saved,
+                                        area[LOG], lent->log, area[REPLY], lent->other));
     case TICK:
         return of_proved(nizhalepu_tick(record, area[PROGRAM], lent->program, area[LOG], lent->log));
     case PRESS:
@@ -128,8 +128,8 @@ static struct said independent_call(struct both *both, const struct step *step)
     case POWER_ON:
         return of_independent(box_power_on(box, area[PROGRAM], lent->program, area[SAVED], lent->saved, area[LOG], lent->log));
     case BYTE:
-        return of_independent(box_byte(box, step->value, area[PROGRAM], lent->program, area[SAVED], lent->saved, area[LOG],
-                                       lent->log, area[REPLY], lent->other));
+        return of_independent(box_byte(box, (uint8_t)step->value, area[PROGRAM], lent->program, area[SAVED], lent->saved,
+                                       area[LOG], lent->log, area[REPLY], lent->other));
     case TICK:
         return of_independent(box_tick(box, area[PROGRAM], lent->program, area[LOG], lent->log));
     case PRESS:

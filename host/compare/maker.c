@@ -19,6 +19,14 @@ static uint32_t wrong_log(struct maker *maker)
     return length <= maker->room ? length : maker->room;
 }
 
+/* A button that there is none of. Most of those named are 1 or 2 in a number of fewer bits. */
+static uint32_t wrong_button(struct chance *chance)
+{
+    static const uint32_t wrong[] = {0, 3, 255, 256, 257, 258, 65537, 65538, 16777217, 16777218, 2147483649, 4294967295};
+    if (chance_one_in(chance, 4)) return chance_between(chance, 3, UINT32_MAX);
+    return wrong[chance_below(chance, sizeof wrong / sizeof *wrong)];
+}
+
 static void make_wrong(struct maker *maker, struct step *step)
 {
     struct chance *chance = &maker->chance;
@@ -28,16 +36,16 @@ static void make_wrong(struct maker *maker, struct step *step)
     if (which & 2) step->lent.saved = wrong_programs[chance_below(chance, 7)];
     if (which & 4) step->lent.log = wrong_log(maker);
     if (which & 8) {
-        if (step->kind == PRESS) step->value = (uint8_t)(chance_one_in(chance, 2) ? 0 : chance_between(chance, 3, 255));
+        if (step->kind == PRESS) step->value = wrong_button(chance);
         if (step->kind == BYTE) step->lent.other = chance_one_in(chance, 2) ? 15 : chance_below(chance, 16);
         if (step->kind == EMPTY) step->lent.other = chance_below(chance, 13);
     }
 }
 
-static void make_call(struct maker *maker, enum kind kind, unsigned value, struct lengths lent)
+static void make_call(struct maker *maker, enum kind kind, uint32_t value, struct lengths lent)
 {
     struct chance *chance = &maker->chance;
-    struct step step = {.kind = (uint8_t)kind, .value = (uint8_t)value, .lent = lent};
+    struct step step = {.kind = (uint8_t)kind, .value = value, .lent = lent};
     uint32_t luck = chance_below(chance, 1000);
     if (luck < 4) {
         struct step wrong = step;
@@ -80,7 +88,7 @@ void make_refused_power_on(struct maker *maker)
     for (unsigned n = chance_below(chance, 8); n > 0; n--) {
         static const uint8_t kinds[] = {BYTE, TICK, PRESS, EMPTY};
         step.kind = kinds[chance_below(chance, 4)];
-        step.value = (uint8_t)(step.kind == PRESS ? chance_below(chance, 4) : 13);
+        step.value = step.kind == PRESS ? chance_below(chance, 4) : 13;
         step.lent = usual(maker);
         if (chance_one_in(chance, 4)) make_wrong(maker, &step);
         if (chance_one_in(chance, 4)) step.lent.log = 0;
@@ -99,9 +107,9 @@ void make_ticks(struct maker *maker, unsigned count)
     while (count-- > 0) make_call(maker, TICK, 0, usual(maker));
 }
 
-void make_press(struct maker *maker, unsigned button)
+void make_press(struct maker *maker, uint32_t button)
 {
-    if (chance_one_in(&maker->chance, 30)) button = chance_below(&maker->chance, 256);
+    if (chance_one_in(&maker->chance, 30)) button = wrong_button(&maker->chance);
     make_call(maker, PRESS, button, usual(maker));
 }
 
@@ -141,7 +149,7 @@ void make_whole_empty(struct maker *maker)
 
 static struct step alteration(enum area area, enum way way, uint32_t at, uint32_t count, uint64_t bytes)
 {
-    struct step step = {.kind = ALTER, .value = (uint8_t)area, .way = (uint8_t)way, .alter = {.at = at, .count = count}};
+    struct step step = {.kind = ALTER, .value = (uint32_t)area, .way = (uint8_t)way, .alter = {.at = at, .count = count}};
     memcpy(step.alter.bytes, &bytes, sizeof bytes);
     return step;
 }

@@ -23,7 +23,7 @@ void make_power_on(struct maker *maker);
 void make_refused_power_on(struct maker *maker);
 void make_byte(struct maker *maker, uint8_t byte);
 void make_ticks(struct maker *maker, unsigned count);
-void make_press(struct maker *maker, unsigned button);
+void make_press(struct maker *maker, uint32_t button);
 /* Only where the row is used up: the destination fits the records held now. */
 void make_empty(struct maker *maker);
 void make_whole_empty(struct maker *maker); /* the destination fits any log */

@@ -88,8 +88,8 @@ static void call_proved_byte(void)
     uint8_t **area = both.area[PROVED];
     const struct lengths *lent = &step.lent;
     struct nizhalepu_said got =
-        proved_byte(both.record, step.value, area[PROGRAM], lent->program, area[SAVED], lent->saved, area[LOG], lent->log,
-                    area[REPLY], lent->other);
+        proved_byte(both.record, (uint8_t)step.value, area[PROGRAM], lent->program, area[SAVED], lent->saved, area[LOG],
+                    lent->log, area[REPLY], lent->other);
     said = (struct said){got.refusal, got.lines, got.written};
 }
 
@@ -106,8 +106,8 @@ static void call_independent_byte(void)
     uint8_t **area = both.area[INDEPENDENT];
     const struct lengths *lent = &step.lent;
     struct box_said got =
-        independent_byte(both.box, step.value, area[PROGRAM], lent->program, area[SAVED], lent->saved, area[LOG], lent->log,
-                         area[REPLY], lent->other);
+        independent_byte(both.box, (uint8_t)step.value, area[PROGRAM], lent->program, area[SAVED], lent->saved, area[LOG],
+                         lent->log, area[REPLY], lent->other);
     said = (struct said){got.refusal, got.lines, got.written};
 }
 

@@ -109,7 +109,7 @@ void statistics_count(struct statistics *statistics, const struct step *step, co
     if (step->kind == POWER_ON) power_went_on(statistics);
     if (said->refusal != 0) return;
     if (step->kind == TICK) statistics->ticks[state(statistics)]++;
-    if (step->kind == BYTE) count_byte(statistics, step->value, both);
+    if (step->kind == BYTE) count_byte(statistics, (uint8_t)step->value, both);
     if (step->kind == EMPTY && said->written > statistics->most_written) statistics->most_written = said->written;
     if (said->lines > statistics->most_lines) statistics->most_lines = said->lines;
     statistics->full_runs += said->lines == 400;

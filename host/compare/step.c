@@ -90,7 +90,7 @@ static size_t print_run(const struct steps *steps, size_t i, uint32_t log)
         if (n > 1) printf(", %zu times", n);
     } else {
         printf("  byte");
-        for (size_t k = 0; k < n; k++) print_byte(steps->step[i + k].value);
+        for (size_t k = 0; k < n; k++) print_byte((uint8_t)steps->step[i + k].value);
     }
     print_lengths(step, log);
     return n;
@@ -109,7 +109,7 @@ void steps_print(const struct steps *steps)
             printf("  power-on %" PRIu32 " %" PRIu32 " %" PRIu32 "\n", lent->program, lent->saved, lent->log);
             log = lent->log;
         } else if (step->kind == PRESS) {
-            printf("  press %u", step->value);
+            printf("  press %" PRIu32, step->value);
             print_lengths(step, log);
         } else if (step->kind == EMPTY) {
             printf("  empty into %" PRIu32, lent->other);

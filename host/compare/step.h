@@ -33,8 +33,8 @@ struct alteration {
 
 struct step {
     uint8_t kind;
-    uint8_t value; /* the byte or the button; of an alteration the area */
-    uint8_t way;   /* of an alteration only */
+    uint8_t way;    /* of an alteration only */
+    uint32_t value; /* the byte or the button; of an alteration the area */
     union {
         struct lengths lent;
         struct alteration alter;

@@ -249,7 +249,7 @@ def refusals():
     line("tick 1600 23", "31 0")
     line("press 3 1599 23", "30 0")
     line("press 3 1600 23", "31 0")
-    for button in (0, 3, 255):
+    for button in (0, 3, 255, 256, 257, 258, 65537, 65538, 4294967295):
         line(f"press {button} 1600 24", "34 0")
     line("empty 25 0", "31 0")
     line("empty 24 11", "35 0")
@@ -291,7 +291,8 @@ def unread():
                  "on 1600 1600 0x18", "on 1600 1600 24.", "byte 256 1600 1600 24 16", "byte 13 1600 1600 24 65",
                  "byte 13 1600 1600 24", "byte -1 1600 1600 24 16", "tick 1600", "tick 1600 24 0",
                  "ticks 18446744073709551616 1600 24", "ticks 99999999999999999999999 1600 24", "ticks 1 1600",
-                 "press 256 1600 24", "press 1 1600 70001", "empty 24", "empty 24 70001", "set program 0", "set program 0 0",
+                 "press 4294967296 1600 24", "press 4294967297 1600 24", "press -1 1600 24", "press 1 1600 70001",
+                 "empty 24", "empty 24 70001", "set program 0", "set program 0 0",
                  "set program 0 0G", "set program 0 00 00", "set program 2000 00", "set program 2001 -", "set program 1999 0000",
                  "set dest 69999 0000", "set box 0 00", "set program -1 00", "set program 0 --", "get program 2000 1",
                  "get program 2001 0", "get program 0 2001", "get program 0", "get reply 0 65", "get log 69999 2", "get log 0 -",

@@ -28,7 +28,7 @@ use Rattle.controller.specs.Deeds.{writing, emptyCollection, asked, answ
 use Rattle.controller.specs.Deeds as Deeds
 use Rattle.controller.specs.Refusals.{Call, powerOn, byte, tick, press, emptying}
 use Rattle.controller.specs.Calls.{does}
-use Rattle.controller.specs.Effects.{finished, specialCode, writesOutputs, isLine, isPress, isPowerOn}
+use Rattle.controller.specs.Effects.{finished, specialCode, writesOutputs, isLine, isEnd, isTick, isEmptying, isPress, isPowerOn}
 
 -- ---- the parts
 
@@ -113,21 +113,12 @@ byCommand saved r = eqb (specialCode r) 8
 byCommand logArea r = false
 byCommand out r = false
 
--- the call is a wire byte; it is byte 13; it is a tick; it is a press of either button; it is an emptying
+-- the call is a wire byte; it is a press of either button
 abbrev pub isByte : Call → Bool
 isByte = elim [ powerOn ↦ false | byte x ↦ true | tick ↦ false | press n ↦ false | emptying ↦ false ]
 
-abbrev pub isEnd : Call → Bool
-isEnd = elim [ powerOn ↦ false | byte x ↦ eqb x 13 | tick ↦ false | press n ↦ false | emptying ↦ false ]
-
-abbrev pub isTick : Call → Bool
-isTick = elim [ powerOn ↦ false | byte x ↦ false | tick ↦ true | press n ↦ false | emptying ↦ false ]
-
 abbrev pub isAnyPress : Call → Bool
 isAnyPress = elim [ powerOn ↦ false | byte x ↦ false | tick ↦ false | press n ↦ true | emptying ↦ false ]
-
-abbrev pub isEmptying : Call → Bool
-isEmptying = elim [ powerOn ↦ false | byte x ↦ false | tick ↦ false | press n ↦ false | emptying ↦ true ]
 
 -- The parts that a call may alter, beside those that the command alters which it finishes.
 abbrev pub byCall : Part → Call → Controller → Bool
@@ -200,12 +191,12 @@ others : (m : Part → Bool) (y x : Deed) → Only m y x → (p : Part) → m p 
 others m y x h p e = ap (partOf p) (sym (h .same)) ∙ part-built (λ q. if m q then partOf q x else partOf q y) x p ∙ rw e
 
 -- an event raised alters the event alone
-raise-is : (e : ℕ) (c : Controller) → raise e c ≡ withEvent (raise e c .panel .event) (raise e c .panel .unread) c
+pub raise-is : (e : ℕ) (c : Controller) → raise e c ≡ withEvent (raise e c .panel .event) (raise e c .panel .unread) c
 unfolding raise
 raise-is e c = if-case (λ (x : Controller). x ≡ withEvent (x .panel .event) (x .panel .unread) c) (eqb e 0) (λ _. refl) (λ _. refl)
 
 -- a line executed alters the run alone
-execute-is : (l : Line) (c : Controller) → execute l c ≡ withRun (execute l c .run) c
+pub execute-is : (l : Line) (c : Controller) → execute l c ≡ withRun (execute l c .run) c
 execute-is (State o t) c = refl
 execute-is (For n k) c = refl
 execute-is (Next n) c = refl
@@ -251,11 +242,11 @@ answer-only (passed (Write k x)) c a =
     record { same = ap with-reply (write-only k x (emptyCollection c) a .same) }
 
 -- the collection of v, with the last addresses of w
-abbrev collection : Wire → Wire → Wire
+abbrev pub collection : Wire → Wire → Wire
 collection w v = record { chars = v .chars; len = v .len; overlong = v .overlong; nextread = w .nextread; nextwrite = w .nextwrite }
 
 -- a byte collected alters the collection alone
-collect-is : (x : ℕ) (w : Wire) → collect x w ≡ collection w (collect x w)
+pub collect-is : (x : ℕ) (w : Wire) → collect x w ≡ collection w (collect x w)
 unfolding collect
 collect-is x w =
     let P : Wire → Type 0 = λ v. v ≡ collection w v in

@@ -71,7 +71,8 @@ below-200 : (c : Controller) (p : List ℕ) (k : ℕ) → eqb k 200 ≡ false �
 unfolding Variables.lineOf
 below-200 c p k e = rw e
 
-single-back : (l : Line) → Fits l → readLine (bytesOf l) ≡ l
+-- line 200 is kept in the eight bytes of a line
+pub single-back : (l : Line) → Fits l → readLine (bytesOf l) ≡ l
 single-back l f = ap readLine (sym (append-nil (bytesOf l))) ∙ bytes-back l [] f
 
 -- A line written to an address of 000-200 is found there.

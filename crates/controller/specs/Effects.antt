@@ -1,5 +1,5 @@
--- What an accepted call does, in the words of the demands: it finishes a command, gives a special command, starts a program,
--- replaces a line.
+-- What a call is and what an accepted one does, in the words of the laws of one call: it finishes a command, gives a special command,
+-- starts a program, replaces a line.
 use Prim.Native.Nat.{ℕ}
 use mathlib.Core.Bool.{Bool, true, false, not, _&&_}
 use mathlib.Core.Option.{Option, none, some}
@@ -57,6 +57,16 @@ abbrev pub writesLine : ℕ → Res Asked → Bool
 writesLine k (refused e) = false
 writesLine k (passed (Read j)) = false
 writesLine k (passed (Write j x)) = isLine x && eqb k j
+
+-- the call is byte 13; it is a tick; it is an emptying
+abbrev pub isEnd : Call → Bool
+isEnd = elim [ powerOn ↦ false | byte x ↦ eqb x 13 | tick ↦ false | press n ↦ false | emptying ↦ false ]
+
+abbrev pub isTick : Call → Bool
+isTick = elim [ powerOn ↦ false | byte x ↦ false | tick ↦ true | press n ↦ false | emptying ↦ false ]
+
+abbrev pub isEmptying : Call → Bool
+isEmptying = elim [ powerOn ↦ false | byte x ↦ false | tick ↦ false | press n ↦ false | emptying ↦ true ]
 
 abbrev pub isPress : ℕ → Call → Bool
 isPress b powerOn = false

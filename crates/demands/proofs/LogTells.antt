@@ -1,7 +1,7 @@
 -- Demand 2, the log: "The log holds each output change since power-on or the last emptying, in order, or the first of them and
 -- the exact number lost, up to document 01's cap."
 -- Assumes nothing.
-use mathlib.Core.Path.{_≡_, refl, sym, ap, _∙_}
+use mathlib.Core.Path.{_≡_, refl, ap, _∙_}
 use Prim.Native.Nat.{ℕ, _≤_}
 use native.Mathlib.Omega.{arith}
 use mathlib.Core.Bool.{Bool, true, false, not}
@@ -15,16 +15,23 @@ use Rattle.log.specs.declared.Log.{Log}
 use Rattle.log.specs.Record.{leastArea}
 use Rattle.log.specs.Log.{R, Logged, addChange, records, emptied, history}
 use Rattle.log.proofs.Histories.{Holds, holds-nothing, holds-more, records-tell}
-use Rattle.controller.specs.declared.Controller.{Controller}
 use Rattle.controller.specs.Controller.{Areas, fresh}
 use Rattle.controller.specs.Deeds.{over, writing, load, emptyLog, powerUp}
 use Rattle.controller.specs.Refusals.{Call, powerOn, byte, tick, press, emptying, isSameLog}
 use Rattle.controller.specs.Effects.{isPowerOn}
+use Rattle.controller.specs.Invariant.{Invariant}
 use Rattle.controller.specs.Calls.{After, does, changeOf, logged}
 use Rattle.controller.proofs.Refusals.{checked-log, area-long, log-long, accepted-call}
 use Rattle.controller.proofs.Logging.{Ordinary, aByte, aTick, aPress, logged-is}
-use Rattle.demands.specs.Histories.{Made, Held, unpowered, outcome, isAccepted, next, after, HandsOn, AllHandOn}
-use Rattle.demands.specs.Changes.{change, sinceCall, since}
+use Rattle.demands.specs.Histories.{Made, powering, emptyingTo, Held, unpowered, outcome, isAccepted, next, after, HandsOn, AllHandOn}
+use Rattle.demands.specs.Seen.{isTaken, seen, note, notes}
+use Rattle.demands.specs.Told.{Told, powered, tell, tellAll, told}
+use Rattle.demands.specs.Changes.{change, sinceCall, since, changes, places}
+use Rattle.demands.proofs.Answered.{next-invariant, invariant-always}
+use Rattle.demands.proofs.Agrees.{Agrees}
+use Rattle.demands.proofs.Changing.{change-as-told, no-change}
+use Rattle.demands.proofs.Telling.{agrees-next, after-more}
+use Rattle.demands.proofs.AsTold.{held-as-told}
 use Rattle.demands.proofs.Steps.{deed, Step, passes, fails, stepped, refused-held}
 
 -- ---- what holds after each call
@@ -44,36 +51,21 @@ by-test : (cs : List Change) (b : Bool) (l : Log) (area : List ℕ) (new : Chang
 by-test cs true l area new g h e = rw (append-nil, e) h
 by-test cs false l area new g h e = rw e (holds-more cs l area new h)
 
--- the change of a call after which the state is `now`
-change-of : Held → Made → Controller → List Change
-change-of h m now = if eqb (h .state .run .outputs) (now .run .outputs) then [] else changeOf (m .call) (h .state) now ∷ []
-
--- the state that is held is the one that the call returned
-next-state : (h : Held) (m : Made) → next h m .state ≡ outcome h m .state
-unfolding next
-next-state h m = refl
-
--- a byte, a tick or a press
-ordinary : (cs : List Change) (h : Held) (m : Made) → Ordinary (m .call) → isPowerOn (m .call) ≡ false → HandsOn h m → Tells cs h
-    → Tells (cs ++ change h m) (next h m)
-unfolding change change-of
-ordinary cs h m o other hands t = go (stepped h m)
-  where
-    changed : (now : Controller) → outcome h m .state ≡ now → change h m ≡ change-of h m now
-    changed now e = ap (change-of h m) e
-
-    go : Step h m → Tells (cs ++ change h m) (next h m)
-    go (fails ok n e f) =
-        let stays = refused-held h m other f in
-        let e′ : outcome h m .state ≡ h .state = sym (next-state h m) ∙ ap (λ (g : Held). g .state) stays in
-        let none : change h m ≡ [] = changed (h .state) e′ ∙ rw (eq-eqb (h .state .run .outputs) (h .state .run .outputs) refl) in
-        rw (stays, none, append-nil) t
-    go (passes ok ch e f) =
-        let x = deed h m in
-        let g = held-by cs h (m .areas .log) t (checked-log (m .call) (h .state) (m .areas) other ch) (hands .log other ok) in
-        rw (f, changed _ (ap (λ (r : After). r .state) e))
-        (tells (by-test cs (eqb (h .state .run .outputs) (x .state .run .outputs)) (h .state .log) (m .areas .log) (changeOf (m .call) (h .state) (x .state))
-        (logged (m .call) (h .state) x) g (logged-is (m .call) (h .state) (m .areas) o)))
+module _ (t : Told) (h : Held) (m : Made) (g : Agrees t (h .state)) (i : Invariant (h .state)) (other : isPowerOn (m .call) ≡ false) where
+  -- a byte, a tick or a press
+  ordinary : (cs : List Change) → Ordinary (m .call) → HandsOn h m → Tells cs h → Tells (cs ++ change t (note h m)) (next h m)
+  ordinary cs o hands tl = go (stepped h m)
+    where
+      go : Step h m → Tells (cs ++ change t (note h m)) (next h m)
+      go (fails bad n e f) =
+          let stays = refused-held h m other f in
+          rw (stays, no-change t h m g i other stays, append-nil) tl
+      go (passes ok ch e f) =
+          let x = deed h m in
+          let held = held-by cs h (m .areas .log) tl (checked-log (m .call) (h .state) (m .areas) other ch) (hands .log other ok) in
+          rw (f, change-as-told t h m g i other ok ch e)
+          (tells (by-test cs (eqb (h .state .run .outputs) (x .state .run .outputs)) (h .state .log) (m .areas .log) (changeOf (m .call) (h .state) (x .state))
+          (logged (m .call) (h .state) x) held (logged-is (m .call) (h .state) (m .areas) o)))
 
 -- power-on begins a log, or leaves none
 at-power-on : (h : Held) (a : Areas) → Tells [] (next h (record { call = powerOn; areas = a }))
@@ -99,59 +91,88 @@ at-emptying cs h a hands t = go (stepped h (record { call = emptying; areas = a 
         rw (ok, f, eq-eqb (h .state .run .outputs) (h .state .run .outputs) refl)
         (tells (holds-nothing (h .state .log .length) (a .log) (s .0) (s .1)))
 
-tells-next : (cs : List Change) (h : Held) (k : Call) (a : Areas) → let m : Made = record { call = k; areas = a } in
-    HandsOn h m → Tells cs h → Tells (sinceCall cs k h m) (next h m)
-tells-next cs h powerOn a hands t = at-power-on h a
-tells-next cs h (byte x) a hands t = ordinary cs h (record { call = byte x; areas = a }) (aByte x) refl hands t
-tells-next cs h tick a hands t = ordinary cs h (record { call = tick; areas = a }) aTick refl hands t
-tells-next cs h (press n) a hands t = ordinary cs h (record { call = press n; areas = a }) (aPress n) refl hands t
-tells-next cs h emptying a hands t = at-emptying cs h a hands t
+tells-next : (cs : List Change) (t : Told) (h : Held) (k : Call) (a : Areas) → let m : Made = record { call = k; areas = a } in
+    Agrees t (h .state) → Invariant (h .state) → HandsOn h m → Tells cs h → Tells (sinceCall cs t (note h m) k) (next h m)
+unfolding note
+tells-next cs t h powerOn a g i hands tl = at-power-on h a
+tells-next cs t h (byte x) a g i hands tl = ordinary t h (record { call = byte x; areas = a }) g i refl cs (aByte x) hands tl
+tells-next cs t h tick a g i hands tl = ordinary t h (record { call = tick; areas = a }) g i refl cs aTick hands tl
+tells-next cs t h (press n) a g i hands tl = ordinary t h (record { call = press n; areas = a }) g i refl cs (aPress n) hands tl
+tells-next cs t h emptying a g i hands tl = at-emptying cs h a hands tl
 
-tells-after : (cs : List Change) (h : Held) (ms : List Made) → AllHandOn h ms → Tells cs h → Tells (since cs h ms) (after h ms)
-unfolding since after
-tells-after cs h [] hands t = t
-tells-after cs h (m ∷ ms) hands t =
-    tells-after (sinceCall cs (m .call) h m) (next h m) ms (hands .1) (tells-next cs h (m .call) (m .areas) (hands .0) t)
+tells-after : (cs : List Change) (t : Told) (h : Held) (ms : List Made) → Agrees t (h .state) → Invariant (h .state) → AllHandOn h ms → Tells cs h
+    → Tells (since cs t (notes h ms)) (after h ms)
+unfolding since after notes note
+tells-after cs t h [] g i hands tl = tl
+tells-after cs t h (m ∷ ms) g i hands tl =
+    tells-after _ (tell t (note h m)) (next h m) ms (agrees-next t h m i g) (next-invariant h m i) (hands .1)
+    (tells-next cs t h (m .call) (m .areas) g i (hands .0) tl)
 
--- ---- the demand
+-- ---- calls after calls
 
-unpowered-size : unpowered .state .log .length ≡ 0
-unfolding fresh emptied
-unpowered-size = refl
+since-append : (xs ys : List Made) (cs : List Change) (t : Told) (h : Held)
+    → since cs t (notes h (xs ++ ys)) ≡ since (since cs t (notes h xs)) (tellAll t (notes h xs)) (notes (after h xs) ys)
+unfolding since notes tellAll after
+since-append [] ys cs t h = refl
+since-append (m ∷ xs) ys cs t h = since-append xs ys _ (tell t (note h m)) (next h m)
 
--- The records held after any calls are the history of the changes since power-on or the last emptying.
-pub log-tells : (ms : List Made) → AllHandOn unpowered ms → leastArea ≤ after unpowered ms .state .log .length
-    → let h = after unpowered ms in records (h .state .log) (h .log) ≡ history (R (h .state .log)) (since [] unpowered ms)
-log-tells ms hands powered = go (tells-after [] unpowered ms hands (unlogged unpowered-size))
-  where
-    go : Tells (since [] unpowered ms) (after unpowered ms)
-        → records (after unpowered ms .state .log) (after unpowered ms .log) ≡ history (R (after unpowered ms .state .log)) (since [] unpowered ms)
-    go (tells g) = records-tell (since [] unpowered ms) _ _ g
-    go (unlogged z) = absurd (omega arith)
+changes-more : (xs ys : List Made) → changes (xs ++ ys) ≡ since (changes xs) (told xs) (notes (after unpowered xs) ys)
+unfolding changes told
+changes-more xs ys = since-append xs ys [] (powered 0) unpowered
 
 -- what an accepted emptying leaves in its destination, and the count that it returns
-copied : (h : Held) (a : Areas)
-    → let m : Made = record { call = emptying; areas = a } in
-    isAccepted h m ≡ true
-    → (outcome h m .areas .out ≡ over (records (h .state .log) (a .log)) (a .out))
-    × (outcome h m .written ≡ length (records (h .state .log) (a .log)))
+copied : (h : Held) (a : Areas) → isAccepted h (emptyingTo a) ≡ true
+    → (outcome h (emptyingTo a) .areas .out ≡ over (records (h .state .log) (a .log)) (a .out))
+    × (outcome h (emptyingTo a) .written ≡ length (records (h .state .log) (a .log)))
 unfolding outcome does emptyLog writing
 copied h a ok =
     let e = accepted-call emptying (h .state) a (eqb-true _ _ ok) .1 in
     (ap (λ (r : After). r .areas .out) e, ap (λ (r : After). r .written) e)
 
--- Emptying after any calls copies that history to the start of its destination, leaves the rest, and returns its length.
-pub emptying-tells : (ms : List Made) (a : Areas) → AllHandOn unpowered ms
-    → let h = after unpowered ms in let m : Made = record { call = emptying; areas = a } in
-    HandsOn h m → isAccepted h m ≡ true
-    → let told = history (R (h .state .log)) (since [] unpowered ms) in
-    (outcome h m .areas .out ≡ over told (a .out)) × (outcome h m .written ≡ length told)
-unfolding outcome
-emptying-tells ms a hands hand ok =
-    let h = after unpowered ms in
-    let ch = accepted-call emptying (h .state) a (eqb-true _ _ ok) .0 in
-    let s = log-long (h .state) (a .log) (ch .checks .0 .log) in
-    let told : records (h .state .log) (a .log) ≡ history (R (h .state .log)) (since [] unpowered ms) =
-    ap (records (h .state .log)) (hand .log refl ok) ∙ log-tells ms hands (s .0) in
-    let both = copied h a ok in
-    (both .0 ∙ ap (λ rs. over rs (a .out)) told, both .1 ∙ ap (λ (rs : List ℕ). length rs) told)
+-- ---- the demand
+
+-- A power-on after any calls, and any calls after it; from it on the caller hands on both areas.
+module _ (before : List Made) (lent : Areas) (ms : List Made) (hands : AllHandOn (after unpowered (before ++ (powering lent ∷ []))) ms) where
+  abbrev pub on : List Made
+  on = before ++ (powering lent ∷ [])
+
+  abbrev pub now : List Made
+  now = on ++ ms
+
+  none-yet : changes on ≡ []
+  unfolding since notes note
+  none-yet = changes-more before (powering lent ∷ [])
+
+  tells-on : Tells [] (after unpowered on)
+  unfolding after
+  tells-on = rw (after-more before (powering lent ∷ [])) (at-power-on (after unpowered before) lent)
+
+  tells-now : Tells (changes now) (after unpowered now)
+  tells-now =
+      rw (after-more on ms, changes-more on ms, none-yet)
+      (tells-after [] (told on) (after unpowered on) ms (held-as-told on) (invariant-always on) hands tells-on)
+
+  -- the records held are the history of the changes since power-on or the last emptying
+  log-tells : leastArea ≤ after unpowered now .state .log .length
+      → let h = after unpowered now in records (h .state .log) (h .log) ≡ history (R (h .state .log)) (changes now)
+  log-tells enough = go tells-now
+    where
+      go : Tells (changes now) (after unpowered now)
+          → records (after unpowered now .state .log) (after unpowered now .log) ≡ history (R (after unpowered now .state .log)) (changes now)
+      go (tells g) = records-tell _ _ _ g
+      go (unlogged z) = absurd (omega arith)
+
+  -- An emptying that is taken copies to the start of its destination each change since power-on or the last emptying, in order, or the
+  -- first of them and the number lost; it leaves the rest, and returns the length.
+  pub emptying-tells : (a : Areas) → HandsOn (after unpowered now) (emptyingTo a) → isTaken (seen now (emptyingTo a)) ≡ true
+      → let log = history (places (told now .logLength)) (changes now) in
+      (seen now (emptyingTo a) .areas .out ≡ over log (a .out)) × (seen now (emptyingTo a) .written ≡ length log)
+  unfolding seen outcome
+  emptying-tells a hand ok =
+      let h = after unpowered now in
+      let ch = accepted-call emptying (h .state) a (eqb-true _ _ ok) .0 in
+      let s = log-long (h .state) (a .log) (ch .checks .0 .log) in
+      let log : records (h .state .log) (a .log) ≡ history (places (told now .logLength)) (changes now) =
+      ap (records (h .state .log)) (hand .log refl ok) ∙ log-tells (s .0) ∙ ap (λ n. history (places n) (changes now)) (held-as-told now .logLength) in
+      let both = copied h a ok in
+      (both .0 ∙ ap (λ rs. over rs (a .out)) log, both .1 ∙ ap (λ (rs : List ℕ). length rs) log)

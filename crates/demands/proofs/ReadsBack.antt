@@ -4,55 +4,58 @@
 use mathlib.Core.Path.{_≡_, refl, sym, ap, _∙_}
 use Prim.Native.Nat.{ℕ, _≤_}
 use native.Mathlib.Omega.{arith}
-use mathlib.Core.Bool.{Bool, true, false, true≢false}
+use mathlib.Core.Bool.{Bool, true, false, _&&_, true≢false}
 use mathlib.Core.List.{List, [], _∷_, _++_, head-eq-of-cons-eq}
-use lib.ListN.{length, take}
+use lib.ListN.{length}
+use lib.Dec.{eqb, leb}
 use borrow.Author.Tests.{le-leb}
-use Rattle.formats.specs.Checks.{Res, refused, passed, text}
+use Rattle.formats.specs.Checks.{if_then_else_, Res, refused, passed, text}
 use Rattle.formats.specs.Digits.{errorText}
-use Rattle.formats.proofs.Checks.{ok-at}
+use Rattle.formats.proofs.Checks.{ok-at, and-false, and-swap}
 use Rattle.lines.specs.declared.Line.{Line}
+use Rattle.lines.proofs.Lines.{Fits}
 use Rattle.texts.specs.Text.{lineText}
 use Rattle.texts.proofs.Texts.{Sent}
+use Rattle.running.specs.declared.Run.{Run}
 use Rattle.variables.specs.Variables as Variables
+use Rattle.special.specs.Special.{codeOf}
+use Rattle.special.specs.declared.Mode as M
 use Rattle.wire.specs.declared.Asked.{Asked}
 use Rattle.wire.specs.declared.Asked.the-variants.{Write}
 use Rattle.wire.specs.declared.Data.the-variants.{WriteLine}
 use Rattle.wire.specs.Naming.{Names}
-use Rattle.wire.proofs.Commands.{read-asked, WritesLine, write-asked}
+use Rattle.wire.proofs.Says.{Spoken, command-says}
+use Rattle.wire.proofs.Commands.{read-asked, WritesLine, write-asked, write-accepted}
 use Rattle.controller.specs.declared.Controller.{Controller}
 use Rattle.controller.specs.Controller.{mode, Areas}
 use Rattle.controller.specs.Variables.{lineOf}
 use Rattle.controller.specs.Deeds.{ended, asked, answer}
 use Rattle.controller.specs.Deeds as Deeds
 use Rattle.controller.specs.Refusals.{Call, powerOn, byte, tick, press, emptying}
-use Rattle.controller.specs.Effects.{isPowerOn, replaces}
-use Rattle.controller.specs.Calls.{After, does}
+use Rattle.controller.specs.Effects.{finished, specialCode, writesLine, isPowerOn, replaces}
+use Rattle.controller.specs.Calls.{does}
 use Rattle.controller.specs.Invariant.{Invariant}
 use Rattle.controller.proofs.Refusals.{Checked, program-long}
-use Rattle.controller.proofs.Lines.{replyOf, answer-written, lineIn, write-stores, answered-line, line-kept}
-use Rattle.demands.specs.Histories.{Made, Held, unpowered, isAccepted, isLentProgram, next, after, HandsOn, AllHandOn}
-use Rattle.demands.specs.ReadBack.{reply, ending, Arrives, isReplaced, Unreplaced}
+use Rattle.controller.proofs.Lines.{replyOf, lineIn, write-stores, answered-line, line-kept}
+use Rattle.demands.specs.Histories.{ending, Made, Held, unpowered, outcome, isAccepted, isLentProgram, next, after, HandsOn, AllHandOn}
+use Rattle.demands.specs.Seen.{isTaken, reply, seen, seenOf, note, notes}
+use Rattle.demands.specs.Said.{Said}
+use Rattle.demands.specs.Told.{Told, said, tell, told}
+use Rattle.demands.specs.ReadBack.{Arrives, replacedBy, isReplaced, Unreplaced}
 use Rattle.demands.proofs.Answered.{next-invariant, invariant-always}
 use Rattle.demands.proofs.Steps.{deed, heldThen, Step, passes, fails, stepped, refused-held}
+use Rattle.demands.proofs.Agrees.{Agrees, Hears, anError, aRead, aLine, anOutput, aParameter, aSpecial}
+use Rattle.demands.proofs.Arrived.{arrives-short, arrives-sent, read-length, write-length}
+use Rattle.demands.proofs.Heard.{reply-is, hears}
+use Rattle.demands.proofs.Telling.{agrees-next, after-more}
+use Rattle.demands.proofs.AsTold.{held-as-told}
 
--- ---- what a reply is
-
--- An accepted byte 13 is answered by the reply to what was asked.
-reply-is : (h : Held) (a : Areas) → isAccepted h (ending a) ≡ true → reply h (ending a) ≡ replyOf (asked (h .state)) (h .state) a
-unfolding reply does Deeds.byte
-reply-is h a ok = go (stepped h (ending a))
-  where
-    go : Step h (ending a) → reply h (ending a) ≡ replyOf (asked (h .state)) (h .state) a
-    go (fails bad n e f) = absurd (true≢false (sym ok ∙ bad))
-    go (passes _ ch e f) = ap (λ (x : After). take (x .written) (x .areas .out)) e ∙ answer-written (asked (h .state)) (h .state) a
+-- ---- a write stores the line
 
 -- no error reply is OK
 not-ok : (e : ℕ) → ended (errorText e) ≡ ended (text "OK") → ⊥
 unfolding errorText text
 not-ok e p = let z : _≡_ {A = ℕ} 69 79 = head-eq-of-cons-eq p in omega arith
-
--- ---- a write stores the line
 
 -- the line that address k holds, as the caller holds the box
 abbrev pub lineAtAddress : Held → ℕ → Line
@@ -63,29 +66,30 @@ accepted-line : (h : Held) (m : Made) (k : ℕ) → isLentProgram (m .call) ≡ 
 unfolding Variables.lineOf
 accepted-line h m k lent f = ap (λ (g : Held). lineAtAddress g k) f ∙ rw lent
 
-module _ (h : Held) (a : Areas) (k : ℕ) (address line : List ℕ) (inside : k ≤ 200) (wrote : Arrives h a (text "CW" ++ (address ++ line)))
-    (named : Names (h .state .wire .nextwrite) k address) where
+module _ (h : Held) (t : Told) (g : Agrees t (h .state)) (a : Areas) (k : ℕ) (address line : List ℕ) (inside : k ≤ 200)
+    (arrived : Arrives t (text "CW" ++ (address ++ line))) (named : Names (t .nextWrite) k address) (taken : isAccepted h (ending a) ≡ true) where
   -- what is asked, where the answer is OK
-  asked-write : reply h (ending a) ≡ ended (text "OK") → (q : Asked) × (asked (h .state) ≡ passed q)
+  asked-write : reply (seenOf (outcome h (ending a))) ≡ ended (text "OK") → (q : Asked) × (asked (h .state) ≡ passed q)
   asked-write ok = go (asked (h .state)) refl
     where
       go : (r : Res Asked) → asked (h .state) ≡ r → (q : Asked) × (asked (h .state) ≡ passed q)
-      go (refused e) f = absurd (not-ok e (ap (λ r. replyOf r (h .state) a) (sym f) ∙ sym (reply-is h a (wrote .accepted)) ∙ ok))
+      go (refused e) f = absurd (not-ok e (ap (λ r. replyOf r (h .state) a) (sym f) ∙ sym (reply-is h a taken) ∙ ok))
       go (passed q) f = (q, f)
 
   -- The address then shows the characters that were sent.
-  written-line : reply h (ending a) ≡ ended (text "OK") → lineText (lineAtAddress (next h (ending a)) k) ≡ line
+  written-line : reply (seenOf (outcome h (ending a))) ≡ ended (text "OK") → lineText (lineAtAddress (next h (ending a)) k) ≡ line
   unfolding does Deeds.byte
   written-line ok =
       let q = asked-write ok in
+      let short = ok-at (Spoken (h .state .wire)) (command-says (h .state .wire) (mode (h .state)) (h .state .panel .parameter)) (q .1) .short in
       let p = ok-at (WritesLine k line)
-      (write-asked (h .state .wire) (mode (h .state)) (h .state .panel .parameter) (wrote .short) k address line inside (wrote .collected)
-      named) (q .1) in
+      (write-asked (h .state .wire) (mode (h .state)) (h .state .panel .parameter) short k address line inside (arrives-sent t (h .state) g _ arrived short)
+      (rw (g .nextWrite) named)) (q .1) in
       go (p .line) (q .1 ∙ ap passed (p .writes)) (stepped h (ending a)) (p .sentAs)
     where
       go : (l : Line) → asked (h .state) ≡ passed (Write k (WriteLine l)) → Step h (ending a) → Sent line l
           → lineText (lineAtAddress (next h (ending a)) k) ≡ line
-      go l e (fails bad n _ f) s = absurd (true≢false (sym (wrote .accepted) ∙ bad))
+      go l e (fails bad n _ f) s = absurd (true≢false (sym taken ∙ bad))
       go l e (passes _ ch _ f) s =
           let len : length (a .program) ≡ 1600 = program-long (ch .checks .0) in
           ap lineText
@@ -95,9 +99,19 @@ module _ (h : Held) (a : Areas) (k : ℕ) (address line : List ℕ) (inside : k 
 
 -- ---- the calls after it leave it
 
-replaced-by-power-on : (k : ℕ) (n : Call) (c : Controller) → isPowerOn n ≡ true → replaces k n c ≡ true
+-- what does not replace the line by the history does not replace it in the box
+replaces-as-told : (k : ℕ) (n : Call) (c : Controller) (s : Said) → isPowerOn n ≡ false → Hears (finished n c) s → replacedBy k s ≡ false
+    → replaces k n c ≡ false
 unfolding replaces
-replaced-by-power-on k n c e = rw e
+replaces-as-told k n c s other h u = rw other (go (finished n c) s h u)
+  where
+    go : (r : Res Asked) (s : Said) → Hears r s → replacedBy k s ≡ false → (if writesLine k r then true else (leb k 199 && eqb (specialCode r) 7)) ≡ false
+    go r s (anError e) u = and-false (leb k 199)
+    go r s (aRead j le) u = and-false (leb k 199)
+    go r s (aLine j l le fits) u = rw u (and-false (leb k 199))
+    go r s (anOutput j x lo hi) u = and-false (leb k 199)
+    go r s (aParameter v) u = and-false (leb k 199)
+    go r s (aSpecial x) u = and-swap (eqb (codeOf x) 7) (leb k 199) u
 
 module _ (k : ℕ) (h : Held) (a : Areas) (inside : k ≤ 200) (i : Invariant (h .state)) where
   -- an accepted call that is lent the program
@@ -123,53 +137,85 @@ module _ (k : ℕ) (h : Held) (a : Areas) (inside : k ≤ 200) (i : Invariant (h
   accepted-keeps (press n) other hands ok ch f u = lent-keeps (press n) other refl hands ok ch f u
   accepted-keeps emptying other hands ok ch f u = emptying-keeps f
 
-call-keeps : (k : ℕ) (h : Held) (m : Made) → k ≤ 200 → Invariant (h .state) → HandsOn h m → isReplaced k h m ≡ false
+call-keeps : (k : ℕ) (h : Held) (m : Made) (t : Told) → k ≤ 200 → Agrees t (h .state) → Invariant (h .state) → HandsOn h m → isReplaced k t (note h m) ≡ false
     → lineAtAddress (next h m) k ≡ lineAtAddress h k
-unfolding isReplaced
-call-keeps k h m inside i hands u = go (isPowerOn (m .call)) refl (stepped h m)
+unfolding isReplaced note
+call-keeps k h m t inside g i hands u = go (isPowerOn (m .call)) refl (stepped h m)
   where
-    go : (t : Bool) → isPowerOn (m .call) ≡ t → Step h m → lineAtAddress (next h m) k ≡ lineAtAddress h k
-    go true other s = absurd (true≢false (sym (replaced-by-power-on k (m .call) (h .state) other) ∙ (rw other at u)))
-    go false other (fails ok n e f) = ap (λ (g : Held). lineAtAddress g k) (refused-held h m other f)
+    go : (b : Bool) → isPowerOn (m .call) ≡ b → Step h m → lineAtAddress (next h m) k ≡ lineAtAddress h k
+    go true other s = absurd (true≢false (rw other at u))
+    go false other (fails ok n e f) = ap (λ (x : Held). lineAtAddress x k) (refused-held h m other f)
     go false other (passes ok ch e f) =
-        let unreplaced : replaces k (m .call) (h .state) ≡ false = rw (other, ok) at u in
-        accepted-keeps k h (m .areas) inside i (m .call) other hands ok ch f unreplaced
+        let u′ : replacedBy k (said t (note h m)) ≡ false = rw (other, ok) at u in
+        accepted-keeps k h (m .areas) inside i (m .call) other hands ok ch f
+        (replaces-as-told k (m .call) (h .state) (said t (note h m)) other (hears h m t g i ok) u′)
 
-lines-kept : (k : ℕ) (ms : List Made) (h : Held) → k ≤ 200 → Invariant (h .state) → AllHandOn h ms → Unreplaced k h ms
-    → lineAtAddress (after h ms) k ≡ lineAtAddress h k
-unfolding after
-lines-kept k [] h inside i hands u = refl
-lines-kept k (m ∷ ms) h inside i hands u =
-    lines-kept k ms (next h m) inside (next-invariant h m i) (hands .1) (u .1) ∙ call-keeps k h m inside i (hands .0) (u .0)
+lines-kept : (k : ℕ) (ms : List Made) (h : Held) (t : Told) → k ≤ 200 → Agrees t (h .state) → Invariant (h .state) → AllHandOn h ms
+    → Unreplaced k t (notes h ms) → lineAtAddress (after h ms) k ≡ lineAtAddress h k
+unfolding after notes
+lines-kept k [] h t inside g i hands u = refl
+lines-kept k (m ∷ ms) h t inside g i hands u =
+    lines-kept k ms (next h m) (tell t (note h m)) inside (agrees-next t h m i g) (next-invariant h m i) (hands .1) (u .1)
+    ∙ call-keeps k h m t inside g i (hands .0) (u .0)
 
 -- ---- a read shows the line
 
-read-line : (h : Held) (a : Areas) (k : ℕ) (address : List ℕ) → k ≤ 200 → Arrives h a (text "CR" ++ address) → Names (h .state .wire .nextread) k address
-    → HandsOn h (ending a) → reply h (ending a) ≡ ended (lineText (lineAtAddress h k))
+read-line : (h : Held) (t : Told) → Agrees t (h .state) → (a : Areas) (k : ℕ) (address : List ℕ) → k ≤ 200 → Arrives t (text "CR" ++ address)
+    → Names (t .nextRead) k address → isAccepted h (ending a) ≡ true → HandsOn h (ending a)
+    → reply (seenOf (outcome h (ending a))) ≡ ended (lineText (lineAtAddress h k))
 unfolding Variables.value
-read-line h a k address inside read named hands =
-    reply-is h a (read .accepted)
+read-line h t g a k address inside arrived named taken hands =
+    let short = arrives-short t (h .state) g _ arrived (read-length named) in
+    reply-is h a taken
     ∙ ap (λ r. replyOf r (h .state) a)
-    (read-asked (h .state .wire) (mode (h .state)) (h .state .panel .parameter) (read .short) k address (omega arith) (read .collected)
-    named)
-    ∙ rw (le-leb k 200 inside) (ap (λ p. ended (lineText (lineOf (h .state) p k))) (hands .program refl refl (read .accepted)))
+    (read-asked (h .state .wire) (mode (h .state)) (h .state .panel .parameter) short k address (omega arith) (arrives-sent t (h .state) g _ arrived short)
+    (rw (g .nextRead) named))
+    ∙ rw (le-leb k 200 inside) (ap (λ p. ended (lineText (lineOf (h .state) p k))) (hands .program refl refl taken))
 
 -- ---- the demand
 
--- After any calls, a write of a line to an address of 000-200 is answered OK; then come calls of any kind, none of which is an accepted
--- write to that address, a load of it or a power-on; then that address is read. The reply is the line that was sent, and byte 13.
-pub reads-back : (before : List Made) → let h = after unpowered before in (k : ℕ) → k ≤ 200
+-- The characters of a write of a line arrive at any box, in either case, with spaces and any other calls between them; they name an
+-- address of 000-200 by three digits, I or D; then byte 13 is answered OK. Calls of any kind follow, none of which is an accepted
+-- write to that address, a load of it or a power-on. Then the characters of a read of that address arrive likewise, and byte 13. The
+-- reply is the line that was sent, and 13.
+pub reads-back : (before ms : List Made) (k : ℕ) → k ≤ 200
     -- the write
-    → (a : Areas) (address line : List ℕ) → Arrives h a (text "CW" ++ (address ++ line)) → Names (h .state .wire .nextwrite) k address
-    → reply h (ending a) ≡ ended (text "OK")
+    → (a : Areas) (address line : List ℕ) → Arrives (told before) (text "CW" ++ (address ++ line)) → Names (told before .nextWrite) k address
+    → isTaken (seen before (ending a)) ≡ true → reply (seen before (ending a)) ≡ ended (text "OK")
     -- the calls after it
-    → (ms : List Made) → AllHandOn h (ending a ∷ ms) → Unreplaced k (next h (ending a)) ms
+    → let wrote = before ++ (ending a ∷ []) in
+    AllHandOn (after unpowered wrote) ms → Unreplaced k (told wrote) (notes (after unpowered wrote) ms)
     -- the read
-    → (b : Areas) (address′ : List ℕ) → let now = after (next h (ending a)) ms in
-    Arrives now b (text "CR" ++ address′) → Names (now .state .wire .nextread) k address′ → HandsOn now (ending b)
-    → reply now (ending b) ≡ ended line
-reads-back before k inside a address line wrote named ok ms hands unreplaced b address′ read named′ hand =
+    → (b : Areas) (address′ : List ℕ) → let now = wrote ++ ms in
+    Arrives (told now) (text "CR" ++ address′) → Names (told now .nextRead) k address′ → HandsOn (after unpowered now) (ending b)
+    → isTaken (seen now (ending b)) ≡ true
+    → reply (seen now (ending b)) ≡ ended line
+unfolding seen after
+reads-back before ms k inside a address line arrived named taken ok hands unreplaced b address′ arrived′ named′ hand taken′ =
     let h = after unpowered before in
-    read-line (after (next h (ending a)) ms) b k address′ inside read named′ hand
-    ∙ ap (λ l. ended (lineText l)) (lines-kept k ms (next h (ending a)) inside (next-invariant h (ending a) (invariant-always before)) (hands .1) unreplaced)
-    ∙ ap ended (written-line h a k address line inside wrote named ok)
+    let wrote = before ++ (ending a ∷ []) in
+    let now = wrote ++ ms in
+    let gone : after unpowered wrote ≡ next h (ending a) = after-more before (ending a ∷ []) in
+    read-line (after unpowered now) (told now) (held-as-told now) b k address′ inside arrived′ named′ taken′ hand
+    ∙ ap (λ (x : Held). ended (lineText (lineAtAddress x k))) (after-more wrote ms)
+    ∙ ap (λ l. ended (lineText l))
+    (lines-kept k ms (after unpowered wrote) (told wrote) inside (held-as-told wrote) (invariant-always wrote)
+    hands unreplaced)
+    ∙ ap (λ (x : Held). ended (lineText (lineAtAddress x k))) gone
+    ∙ ap ended (written-line h (told before) (held-as-told before) a k address line inside arrived named taken ok)
+
+-- And it is answered OK: a line in its format, sent to an address of 000-200 of a box in which no program runs.
+pub line-accepted : (before : List Made) (a : Areas) (k : ℕ) → k ≤ 200
+    → (address : List ℕ) (l : Line) → Fits l → Arrives (told before) (text "CW" ++ (address ++ lineText l)) → Names (told before .nextWrite) k address
+    → told before .run .on ≡ false → isTaken (seen before (ending a)) ≡ true
+    → reply (seen before (ending a)) ≡ ended (text "OK")
+unfolding seen
+line-accepted before a k inside address l fits arrived named off taken =
+    let h = after unpowered before in
+    let g = held-as-told before in
+    let short = arrives-short (told before) (h .state) g _ arrived (write-length l named) in
+    let stop : mode (h .state) ≡ M.the-variants.Stop = rw (ap (λ (r : Run). r .on) (g .run) ∙ off) in
+    reply-is h a taken
+    ∙ ap (λ r. replyOf r (h .state) a)
+    (write-accepted (h .state .wire) (mode (h .state)) (h .state .panel .parameter) short k address l fits stop inside
+    (arrives-sent (told before) (h .state) g _ arrived short) (rw (g .nextWrite) named))

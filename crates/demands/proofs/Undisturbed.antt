@@ -2,11 +2,13 @@
 -- Assumes nothing.
 use mathlib.Core.Path.{_≡_, refl, sym, ap, ap₂, _∙_}
 use Prim.Native.Nat.{ℕ, _+_}
-use mathlib.Core.Bool.{Bool, true, false, true≢false}
+use mathlib.Core.Bool.{Bool, true, false, not, true≢false}
 use mathlib.Core.List.{List, [], _∷_}
 use lib.Dec.{eqb}
 use borrow.Author.Tests.{eqb-false}
+use Rattle.formats.specs.Checks.{if_then_else_, Res}
 use Rattle.formats.proofs.Checks.{both-false, neither}
+use Rattle.wire.specs.declared.Asked.{Asked}
 use Rattle.running.specs.declared.Run.{Run}
 use Rattle.running.specs.Running.{tick, ticks}
 use Rattle.running.proofs.Waiting.{ticks-add, was-on}
@@ -14,9 +16,17 @@ use Rattle.controller.specs.Controller.{Areas}
 use Rattle.controller.specs.Refusals.{Call, powerOn, byte, tick as tickCall, press, emptying}
 use Rattle.controller.specs.Calls.{does}
 use Rattle.controller.specs.Effects.{finished, specialCode, isPowerOn}
+use Rattle.controller.specs.Invariant.{Invariant}
 use Rattle.controller.proofs.Moving.{Same, call-same, byte-same, MovedAs, tick-as}
 use Rattle.demands.specs.Histories.{Made, Held, isAccepted, next, after, HandsOn, AllHandOn}
-use Rattle.demands.specs.Undisturbed.{isBroken, Unbroken, tickOf, counts, unpaused}
+use Rattle.demands.specs.Seen.{note, notes}
+use Rattle.demands.specs.Said.{Said, given}
+use Rattle.demands.specs.Told.{Told, said, tell}
+use Rattle.demands.specs.Undisturbed.{isBroken, Unbroken, counts, unpaused}
+use Rattle.demands.proofs.Answered.{next-invariant}
+use Rattle.demands.proofs.Agrees.{Agrees, Hears, anError, aRead, aLine, anOutput, aParameter, aSpecial}
+use Rattle.demands.proofs.Heard.{hears}
+use Rattle.demands.proofs.Telling.{agrees-next}
 use Rattle.demands.proofs.Steps.{deed, heldThen, Step, passes, fails, stepped, refused-held, program-held}
 
 -- what is held moves on by n ticks, and by nothing else
@@ -31,12 +41,6 @@ no-ticks p r = refl
 one-tick : (p : List ℕ) (r : Run) → ticks p 1 r ≡ tick p r .run
 unfolding ticks
 one-tick p r = refl
-
--- a tick that is taken counts, unless it is taken while paused
-by-pause : (ok paused : Bool) (P : ℕ → Type 0) → ok ≡ true → (paused ≡ true → P 0) → (paused ≡ false → P 1) → P (tickOf tickCall ok paused)
-by-pause true true P e f g = f refl
-by-pause true false P e f g = g refl
-by-pause false paused P e f g = absurd (true≢false (sym e))
 
 module _ (h : Held) (m : Made) (other : isPowerOn (m .call) ≡ false) (hands : HandsOn h m) where
   -- a refused call
@@ -62,36 +66,60 @@ module _ (h : Held) (a : Areas) (hands : HandsOn h (record { call = tickCall; ar
         program = program-held h (record { call = tickCall; areas = a }) refl ok hands f (d .program);
       }
 
+-- the special command that the history hears is the one that the box does
+pub given-as-told : {r : Res Asked} {s : Said} → Hears r s → specialCode r ≡ given s
+given-as-told (anError e) = refl
+given-as-told (aRead k le) = refl
+given-as-told (aLine k l le fits) = refl
+given-as-told (anOutput k x lo hi) = refl
+given-as-told (aParameter v) = refl
+given-as-told (aSpecial x) = refl
+
 -- One call that breaks nothing off moves the run by as many ticks as it counts, and by nothing else.
-goes : (h : Held) → h .state .run .on ≡ true → (k : Call) (a : Areas) → let m : Made = record { call = k; areas = a } in
-    HandsOn h m → isBroken h m ≡ false → Step h m → Goes h (counts h m) (next h m)
-unfolding counts isBroken does finished
-goes h on powerOn a hands u s = absurd (true≢false u)
-goes h on (byte x) a hands u (fails ok n e f) = stays h _ refl hands (refused-held h _ refl f)
-goes h on tickCall a hands u (fails ok n e f) = rw ok (stays h _ refl hands (refused-held h _ refl f))
-goes h on (press n) a hands u (fails ok _ e f) = stays h _ refl hands (refused-held h _ refl f)
-goes h on emptying a hands u (fails ok n e f) = stays h _ refl hands (refused-held h _ refl f)
-goes h on (byte x) a hands u (passes ok ch e f) =
-    let b = neither (eqb (specialCode (finished (byte x) (h .state))) 1) false (both-false _ _ ok u) in
-    same-goes h _ refl hands ok f (byte-same x (h .state) a on (eqb-false _ _ (b .0)))
-goes h on tickCall a hands u (passes ok ch e f) =
-    let m : Made = record { call = tickCall; areas = a } in
-    by-pause (isAccepted h m) (h .state .paused) (λ n. Goes h n (next h m)) ok
-    (λ p. same-goes h m refl hands ok f (call-same tickCall (h .state) a (rw p) refl)) (λ p. tick-goes h a hands ok f (tick-as (h .state) a p))
-goes h on (press n) a hands u (passes ok ch e f) =
-    let b = neither (eqb (specialCode (finished (press n) (h .state))) 1) (eqb n 1) (both-false _ _ ok u) in
-    same-goes h _ refl hands ok f (call-same (press n) (h .state) a (rw (b .1)) refl)
-goes h on emptying a hands u (passes ok ch e f) = same-goes h _ refl hands ok f (call-same emptying (h .state) a refl refl)
+module _ (t : Told) (h : Held) (g : Agrees t (h .state)) (i : Invariant (h .state)) (on : h .state .run .on ≡ true) where
+  tick-counted : (a : Areas) → let m : Made = record { call = tickCall; areas = a } in HandsOn h m → isAccepted h m ≡ true → next h m ≡ heldThen h m
+      → Goes h (counts t (note h m)) (next h m)
+  unfolding counts note does finished
+  tick-counted a hands ok f = rw ok (go (t .paused) refl)
+    where
+      m : Made
+      m = record { call = tickCall; areas = a }
+
+      go : (b : Bool) → t .paused ≡ b → Goes h (if not (t .paused) then 1 else 0) (next h m)
+      go true p = rw p (same-goes h m refl hands ok f (call-same tickCall (h .state) a (rw (g .paused ∙ p)) refl))
+      go false p = rw p (tick-goes h a hands ok f (tick-as (h .state) a (g .paused ∙ p)))
+
+  goes : (k : Call) (a : Areas) → let m : Made = record { call = k; areas = a } in
+      HandsOn h m → isBroken t (note h m) ≡ false → Step h m → Goes h (counts t (note h m)) (next h m)
+  unfolding counts note isBroken does finished
+  goes powerOn a hands u s = absurd (true≢false u)
+  goes (byte x) a hands u (fails ok n e f) = stays h _ refl hands (refused-held h _ refl f)
+  goes tickCall a hands u (fails ok n e f) = rw ok (stays h _ refl hands (refused-held h _ refl f))
+  goes (press n) a hands u (fails ok _ e f) = stays h _ refl hands (refused-held h _ refl f)
+  goes emptying a hands u (fails ok n e f) = stays h _ refl hands (refused-held h _ refl f)
+  goes (byte x) a hands u (passes ok ch e f) =
+      let m : Made = record { call = byte x; areas = a } in
+      let code = given-as-told (hears h m t g i ok) in
+      let b = neither (eqb (given (said t (note h m))) 1) false (both-false _ _ ok u) in
+      same-goes h m refl hands ok f (byte-same x (h .state) a on (eqb-false _ _ (ap (λ n. eqb n 1) code ∙ b .0)))
+  goes tickCall a hands u (passes ok ch e f) = tick-counted a hands ok f
+  goes (press n) a hands u (passes ok ch e f) =
+      let m : Made = record { call = press n; areas = a } in
+      let b = neither (eqb (given (said t (note h m))) 1) (eqb n 1) (both-false _ _ ok u) in
+      same-goes h m refl hands ok f (call-same (press n) (h .state) a (rw (b .1)) refl)
+  goes emptying a hands u (passes ok ch e f) = same-goes h _ refl hands ok f (call-same emptying (h .state) a refl refl)
 
 -- While no stop and no power-on comes and the program has not ended by the rules, the run is the one that the rules give.
-pub undisturbed : (ms : List Made) (h : Held) → AllHandOn h ms → Unbroken h ms → ticks (h .program) (unpaused h ms) (h .state .run) .on ≡ true
-    → Goes h (unpaused h ms) (after h ms)
-unfolding after unpaused
-undisturbed [] h hands u on = record { run = sym (no-ticks (h .program) (h .state .run)); program = refl }
-undisturbed (m ∷ ms) h hands u on =
-    let n = unpaused (next h m) ms in
-    let g = goes h (was-on (h .program) (counts h m + n) (h .state .run) on) (m .call) (m .areas) (hands .0) (u .0) (stepped h m) in
-    let e : ticks (next h m .program) n (next h m .state .run) ≡ ticks (h .program) (counts h m + n) (h .state .run) =
-    ap₂ (λ q r. ticks q n r) (g .program) (g .run) ∙ sym (ticks-add (h .program) (counts h m) n (h .state .run)) in
-    let rest = undisturbed ms (next h m) (hands .1) (u .1) (ap (λ (r : Run). r .on) e ∙ on) in
-    record { run = rest .run ∙ e; program = rest .program ∙ g .program }
+pub undisturbed : (ms : List Made) (t : Told) (h : Held) → Agrees t (h .state) → Invariant (h .state) → AllHandOn h ms → Unbroken t (notes h ms)
+    → ticks (h .program) (unpaused t (notes h ms)) (h .state .run) .on ≡ true → Goes h (unpaused t (notes h ms)) (after h ms)
+unfolding after unpaused notes
+undisturbed [] t h g i hands u on = record { run = sym (no-ticks (h .program) (h .state .run)); program = refl }
+undisturbed (m ∷ ms) t h g i hands u on =
+    let n = unpaused (tell t (note h m)) (notes (next h m) ms) in
+    let one = counts t (note h m) in
+    let go = goes t h g i (was-on (h .program) (one + n) (h .state .run) on) (m .call) (m .areas) (hands .0) (u .0) (stepped h m) in
+    let e : ticks (next h m .program) n (next h m .state .run) ≡ ticks (h .program) (one + n) (h .state .run) =
+    ap₂ (λ q r. ticks q n r) (go .program) (go .run) ∙ sym (ticks-add (h .program) one n (h .state .run)) in
+    let rest = undisturbed ms (tell t (note h m)) (next h m) (agrees-next t h m i g) (next-invariant h m i) (hands .1) (u .1)
+    (ap (λ (r : Run). r .on) e ∙ on) in
+    record { run = rest .run ∙ e; program = rest .program ∙ go .program }

@@ -16,6 +16,19 @@ pub record Made : Type 0 where
   pub call : Call
   pub areas : Areas
 
+-- "Byte 13 ends a command"; a tick; a power-on; an emptying
+abbrev pub ending : Areas → Made
+ending a = record { call = byte 13; areas = a }
+
+abbrev pub ticking : Areas → Made
+ticking a = record { call = tick; areas = a }
+
+abbrev pub powering : Areas → Made
+powering a = record { call = powerOn; areas = a }
+
+abbrev pub emptyingTo : Areas → Made
+emptyingTo a = record { call = emptying; areas = a }
+
 -- What the caller holds between two calls: the state that the last call returned, and the program area and the log as the last
 -- accepted call that was lent them left them.
 pub record Held : Type 0 where
@@ -31,6 +44,7 @@ unpowered = record { state = fresh 0; program = []; log = [] }
 unfoldable pub outcome : Held → Made → After
 outcome h m = call (m .call) (h .state) (m .areas)
 
+-- the call is taken, as `Seen.isTaken` says of what is seen
 abbrev pub isAccepted : Held → Made → Bool
 isAccepted h m = eqb (outcome h m .refusal) 0
 

@@ -1,33 +1,31 @@
 -- Demand 2, read-back: commands that arrive whole, and what replaces a line.
 use Prim.Native.Nat.{ℕ}
 use mathlib.Core.Path.{_≡_}
-use mathlib.Core.Bool.{Bool, true, false, _&&_, _||_}
-use mathlib.Core.List.{List, [], _∷_}
-use lib.ListN.{take}
-use Rattle.wire.specs.Collecting.{sent}
-use Rattle.controller.specs.Controller.{Areas}
-use Rattle.controller.specs.Effects.{isPowerOn, replaces}
-use Rattle.controller.specs.Refusals.{byte}
-use Rattle.demands.specs.Histories.{Made, Held, outcome, isAccepted, next}
+use mathlib.Core.Bool.{Bool, false, _&&_, _||_}
+use mathlib.Core.List.{List, map}
+use lib.Dec.{eqb, leb}
+use Rattle.wire.specs.Collecting.{capital}
+use Rattle.controller.specs.Effects.{isPowerOn}
+use Rattle.demands.specs.Seen.{isTaken, Note}
+use Rattle.demands.specs.Said.{Said, silence, reads, writesLine, writesOutputs, writesParameter, gives}
+use Rattle.demands.specs.Told.{Told, said, Never}
 
--- the reply of a call, as it stands in its area
-unfoldable pub reply : Held → Made → List ℕ
-reply h m = take (outcome h m .written) (outcome h m .areas .out)
+-- These characters have been received since the last 13: spaces dropped, "a-z count as A-Z", any other calls between them.
+abbrev pub Arrives : Told → List ℕ → Type 0
+Arrives t command = map capital (t .received) ≡ command
 
--- "Byte 13 ends a command."
-abbrev pub ending : Areas → Made
-ending a = record { call = byte 13; areas = a }
+-- a write to address k, or command 007, which replaces 000-199
+abbrev pub replacedBy : ℕ → Said → Bool
+replacedBy k silence = false
+replacedBy k (reads j) = false
+replacedBy k (writesLine j l) = eqb k j
+replacedBy k (writesOutputs j x) = false
+replacedBy k (writesParameter v) = false
+replacedBy k (gives n) = eqb n 7 && leb k 199
 
--- Byte 13 arrives and is accepted, and what was collected is this text, in capitals and not overlong.
-pub record Arrives (h : Held) (a : Areas) (command : List ℕ) : Type 0 where
-  pub accepted : isAccepted h (ending a) ≡ true
-  pub collected : sent (h .state .wire) ≡ command
-  pub short : h .state .wire .overlong ≡ false
+-- 00: "until a later write, a load or a power-on replaces it"; a refused power-on too makes a new state
+unfoldable pub isReplaced : ℕ → Told → Note → Bool
+isReplaced k t n = isPowerOn (n .call) || (isTaken (n .seen) && replacedBy k (said t n))
 
--- a refused call replaces nothing, but for a refused power-on, which makes a new state
-unfoldable pub isReplaced : ℕ → Held → Made → Bool
-isReplaced k h m = (isPowerOn (m .call) || isAccepted h m) && replaces k (m .call) (h .state)
-
-abbrev pub Unreplaced : ℕ → Held → List Made → Type 0
-Unreplaced k h [] = Unit {0}
-Unreplaced k h (m ∷ ms) = (isReplaced k h m ≡ false) × Unreplaced k (next h m) ms
+abbrev pub Unreplaced : ℕ → Told → List Note → Type 0
+Unreplaced k = Never (isReplaced k)

@@ -71,6 +71,11 @@ unfolding shown
 length-shown base n v = length-map (digits base n v) digitChar ∙ length-digits base n v
 
 module _ (base : ℕ) (pos : 0 < base) (le : base ≤ 16) where
+  -- A number is shown in digits.
+  pub shown-digits : (n v : ℕ) → all (isDigit base) (shown base n v) ≡ true
+  unfolding shown
+  shown-digits n v = all-chars base le (digits base n v) (digits-below base pos n v)
+
   -- A number shown in n characters is read as that number.
   pub shown-back : (e n v : ℕ) → v < base ^ n → numberIn base e (shown base n v) ≡ passed v
   unfolding numberIn shown _>>_ _orElse_

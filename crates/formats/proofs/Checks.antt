@@ -10,7 +10,7 @@ use native.Mathlib.Omega.{arith}
 use native.Mathlib.Nat.{not-suc-le-zero}
 use lib.Dec.{eqb}
 use borrow.Author.Tests.{eqb-true, eqb-false}
-use Rattle.formats.specs.Checks.{if_then_else_, Res, refused, passed, _>>=_, _>>_, _orElse_, all, Ok}
+use Rattle.formats.specs.Checks.{if_then_else_, Res, refused, passed, _>>=_, _>>_, _orElse_, all, same, Ok}
 
 -- ---- choices and tests
 
@@ -40,6 +40,16 @@ both-false true b t e = e
 both-false false b t e = absurd (false≢true t)
 
 -- a disjunction is false by both its tests
+pub and-false : (a : Bool) → (a && false) ≡ false
+and-false true = refl
+and-false false = refl
+
+pub and-swap : (a b : Bool) → (a && b) ≡ false → (b && a) ≡ false
+and-swap true true e = e
+and-swap true false e = refl
+and-swap false true e = refl
+and-swap false false e = refl
+
 pub neither : (a b : Bool) → (a || b) ≡ false → (a ≡ false) × (b ≡ false)
 neither true b e = absurd (false≢true (sym e))
 neither false b e = (refl, e)
@@ -71,6 +81,17 @@ all-snoc f [] x e g = rw g
 all-snoc f (y ∷ xs) x e g =
     let p = both-true (f y) (all f xs) e in
     rw (p .0) (all-snoc f xs x (p .1) g)
+
+-- what computed lists are judged by: the same numbers in the same order are one list
+pub same-equal : (xs ys : List ℕ) → same xs ys ≡ true → xs ≡ ys
+same-equal [] [] e = refl
+same-equal [] (y ∷ ys) e = absurd (false≢true e)
+same-equal (x ∷ xs) [] e = absurd (false≢true e)
+same-equal (x ∷ xs) (y ∷ ys) e =
+    let p = both-true (eqb x y) (same xs ys) e in
+    let first : x ≡ y = eqb-true x y (p .0) in
+    let others : xs ≡ ys = same-equal xs ys (p .1) in
+    cc
 
 -- ---- chains of checks
 

@@ -13,7 +13,7 @@ use borrow.Author.Tests.{lt-ltb, le-ltb}
 use Rattle.formats.specs.Checks.{_>>_, _orElse_, all}
 use Rattle.formats.specs.Digits.{digits, numberAfter, number, digitChar, digitValue, isDigit, shown, numberIn}
 use Rattle.formats.specs.declared.Number.the-variants.{Is, No}
-use Rattle.formats.specs.NumbersAndTexts.{numberOf}
+use Rattle.formats.specs.NumbersAndTexts.{numberOr}
 use Rattle.formats.proofs.Checks.{all-snoc}
 use Rattle.formats.proofs.Digits.{number-snoc, number-below}
 use Rattle.formats.proofs.Characters.{all-values}
@@ -44,9 +44,9 @@ read-none base cs = record { digits = refl; value = refl }
 -- the next character has the value d
 module _ (base : ℕ) (cs : List ℕ) (i v d : ℕ) (lt : i < length cs) (r : Read base cs i v) (is : d ≡ digitValue (getD cs i 0)) where
   -- it is no digit
-  pub read-bad : base ≤ d → No ≡ numberOf (numberIn base 3 cs)
+  pub read-bad : base ≤ d → (e : ℕ) → numberOr e No ≡ numberIn base e cs
   unfolding numberIn _>>_ _orElse_
-  read-bad le = rw (not-all (isDigit base) cs i lt (le-ltb (digitValue (getD cs i 0)) base (rw is at le)))
+  read-bad le e = rw (not-all (isDigit base) cs i lt (le-ltb (digitValue (getD cs i 0)) base (rw is at le)))
 
   -- it is one digit more
   pub read-more : d < base → Read base cs (i + 1) (v * base + d)
@@ -72,12 +72,12 @@ read-fits-u32 base cs i v le two eight inside r =
     let fits : number base (map digitValue (take i cs)) < base ^ i = rw len at below in
     omega (arith, r .value)
 
-pub read-all : (base : ℕ) (cs : List ℕ) (i v : ℕ) → length cs ≤ i → Read base cs i v → Is v ≡ numberOf (numberIn base 3 cs)
+pub read-all : (base : ℕ) (cs : List ℕ) (i v : ℕ) → length cs ≤ i → Read base cs i v → (e : ℕ) → numberOr e (Is v) ≡ numberIn base e cs
 unfolding numberIn _>>_ _orElse_
-read-all base cs i v le r =
-    let e : take i cs ≡ cs = take-all i cs le in
-    let d : all (isDigit base) cs ≡ true = rw e at (r .digits) in
-    let w : v ≡ number base (map digitValue cs) = rw e at (r .value) in
+read-all base cs i v le r e =
+    let whole : take i cs ≡ cs = take-all i cs le in
+    let d : all (isDigit base) cs ≡ true = rw whole at (r .digits) in
+    let w : v ≡ number base (map digitValue cs) = rw whole at (r .value) in
     rw (d, w)
 
 -- one digit more still fits

@@ -9,10 +9,11 @@ use Rattle.formats.specs.declared.Byte.{Byte}
 use Rattle.formats.specs.declared.Byte.the-variants.{Is as IsByte, Error}
 use Rattle.formats.specs.declared.Text.{Text}
 
--- a number that was read; which error stands for none is the caller's to say
-abbrev pub numberOf : Res ℕ → Number
-numberOf (refused e) = No
-numberOf (passed v) = Is v
+-- The number that was read, or the error e where none was. Which number e is depends on what was to be read, so whoever asks says it:
+-- E004 for an address, E003 for data.
+abbrev pub numberOr : ℕ → Number → Res ℕ
+numberOr e No = refused e
+numberOr e (Is v) = passed v
 
 abbrev pub byteOf : Res ℕ → Byte
 byteOf (refused e) = Error e

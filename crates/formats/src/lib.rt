@@ -4,13 +4,13 @@
 // below stand for.
 ghost use mathlib.Core.Path.{_≡_};
 ghost use mathlib.Core.List.{[], _∷_, _++_};
-ghost use Prim.Native.Nat.{_+_, _≤_, _<_};
+ghost use Prim.Native.Nat.{ℕ, _+_, _≤_, _<_};
 ghost use lib.ListN.{length, take, drop};
 ghost use Rattle.formats.specs.Digits.{number, digitValue, digitChar, shown, numberIn, hIn, dIn, errorText};
 ghost use Rattle.formats.specs.Bytes.{bytes};
-ghost use Rattle.formats.specs.NumbersAndTexts.{numberOf, byteOf, textOf};
+ghost use Rattle.formats.specs.NumbersAndTexts.{numberOr, byteOf, textOf};
 
-// What characters stand for: a number, or none.
+// What characters stand for: a number, or none, which has its error's number from who asked.
 pub enum Number {
     Is(u32),
     No,
@@ -110,7 +110,7 @@ pub fn digit_char(v: u8) -> u8
 // The number that the characters are to a base, at most eight of them.
 pub fn number_in(cs: &[u8], base: u32) -> Number
     requires { ⌜ (length (now cs) ≤ 8) × (2 ≤ base) × (base ≤ 16) ⌝ }
-    ensures number { λ r. ⌜ r ≡ numberOf (numberIn base 3 (now (cs .entry))) ⌝ }
+    ensures number { λ r. ⌜ ((e : ℕ) → numberOr e r ≡ numberIn base e (now (cs .entry))) ⌝ }
 {
     let mut v: u32 = 0;
     let mut i: usize = 0;

@@ -29,7 +29,7 @@ last-snoc : (t : ℕ) (cs : List Change) (c : Change) → lastTick t (cs ++ (c �
 last-snoc t [] c = refl
 last-snoc t (d ∷ cs) c = last-snoc (d .tick) cs c
 
-one-more-is : (n : ℕ) → n ≤ mostLost → oneMoreLost n ≡ min (n + 1) mostLost
+pub one-more-is : (n : ℕ) → n ≤ mostLost → oneMoreLost n ≡ min (n + 1) mostLost
 one-more-is n le =
     if-case (λ m. m ≡ min (n + 1) mostLost) (ltb n mostLost)
     (λ e. omega (arith, ltb-true n mostLost e)) (λ e. omega (arith, ltb-false n mostLost e))

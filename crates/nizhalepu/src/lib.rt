@@ -85,7 +85,7 @@ pub extern "C" fn nizhalepu_tick(state: &mut SwitchBox, program: &[u8], log: &mu
 #[no_mangle]
 pub extern "C" fn nizhalepu_press(
     state: &mut SwitchBox,
-    n: u8,
+    n: u32,
     program: &[u8],
     log: &mut [u8],
 ) -> Said

@@ -8,7 +8,7 @@ ghost use lib.ListN.{length};
 ghost use Rattle.lines.specs.declared.Line.the-variants.{State, For, Next};
 ghost use Rattle.lines.specs.Line.{isCounter};
 ghost use Rattle.lines.specs.Program.{lineAt};
-ghost use Rattle.running.specs.Running.{free, allFree, freshRun, begun, withOutputs, stopped, onward, runLine};
+ghost use Rattle.running.specs.Running.{free, allFree, freshRun, begun, isFree, withOutputs, stopped, onward, runLine};
 ghost use Rattle.running.specs.Running.{isForOrNext, counted, step, runDue, start, tick};
 ghost use Rattle.running.specs.Invariant.{RunInvariant};
 use lines::Line;
@@ -216,22 +216,31 @@ impl Run {
         self.onward()
     }
 
+    // A counter that is not busy. Its count alone says so, whatever stands above in the text.
+    fn is_free(self, counter: u8) -> bool
+        requires { ⌜ isCounter counter ≡ true ⌝ }
+        ensures test { λ r. ⌜ r ≡ isFree self counter ⌝ }
+    {
+        let c = (counter - 1) as usize;
+        let held = self.counters[c];
+        held.count == 0
+    }
+
     // A Next line takes one off its counter: above zero to the line after the For, at zero on; with a free counter event 008.
     fn run_next(mut self, counter: u8) -> Step
         requires { ⌜ (RunInvariant self) × (isCounter counter ≡ true) ⌝ }
         ensures step { λ r. ⌜ r ≡ runLine [] (Next counter) self ⌝ }
     {
-        let c = (counter - 1) as usize;
-        let held = self.counters[c];
-        let busy = held.count;
-        let from = held.line;
-        if busy == 0 {
+        if self.is_free(counter) {
             return Step {
                 run: self,
                 how: How::Ends(8),
             };
         }
-        let left = busy - 1;
+        let c = (counter - 1) as usize;
+        let held = self.counters[c];
+        let from = held.line;
+        let left = held.count - 1;
         if 0 < left {
             self.counters[c] = Counter {
                 count: left,

@@ -1,9 +1,11 @@
 -- Laws of the codes of the special commands.
 -- Assumes nothing.
-use mathlib.Core.Path.{_≡_, refl}
-use Prim.Native.Nat.{_≤_}
-use lib.Dec.{lit≤}
-use Rattle.formats.specs.Checks.{passed}
+use mathlib.Core.Path.{_≡_, refl, sym}
+use Prim.Native.Nat.{ℕ, _≤_}
+use lib.Dec.{lit≤, eqb}
+use borrow.Author.Tests.{eqb-true}
+use Rattle.formats.specs.Checks.{Res, passed, Ok}
+use Rattle.formats.proofs.Checks.{if-case}
 use Rattle.special.specs.declared.Special.{Special}
 use Rattle.special.specs.declared.Special.the-variants.{Stop, Pause, Start, Continue, StartAt, Execute, Load, Save}
 use Rattle.special.specs.Special.{codeOf, specialOf}
@@ -40,3 +42,13 @@ code-back StartAt = refl
 code-back Execute = refl
 code-back Load = refl
 code-back Save = refl
+
+-- what a code names has that code
+pub code-named : (n : ℕ) → Ok (λ s. codeOf s ≡ n) (specialOf n)
+unfolding specialOf
+code-named n =
+    let P : Res Special → Type 0 = Ok (λ s. codeOf s ≡ n) in
+    if-case P (eqb n 1) (λ e. sym (eqb-true n 1 e)) λ _. if-case P (eqb n 2) (λ e. sym (eqb-true n 2 e)) λ _.
+    if-case P (eqb n 3) (λ e. sym (eqb-true n 3 e)) λ _. if-case P (eqb n 4) (λ e. sym (eqb-true n 4 e)) λ _.
+    if-case P (eqb n 5) (λ e. sym (eqb-true n 5 e)) λ _. if-case P (eqb n 6) (λ e. sym (eqb-true n 6 e)) λ _.
+    if-case P (eqb n 7) (λ e. sym (eqb-true n 7 e)) λ _. if-case P (eqb n 8) (λ e. sym (eqb-true n 8 e)) λ _. tt

@@ -3,7 +3,7 @@
 ghost use mathlib.Core.Path.{_≡_};
 ghost use Prim.Native.Nat.{_≤_};
 ghost use lib.ListN.{length};
-ghost use Rattle.formats.specs.NumbersAndTexts.{numberOf, textOf};
+ghost use Rattle.formats.specs.NumbersAndTexts.{numberOr, textOf};
 ghost use Rattle.texts.specs.Text.{lineText, counterIn, stateIn, forIn, nextIn, lineIn};
 ghost use Rattle.texts.specs.ParsedLine.{parsedOf};
 use formats::Number;
@@ -35,10 +35,10 @@ pub fn line_text(l: Line) -> Text
     }
 }
 
-// The loop counter that one character is, 1 to 4.
+// The loop counter that one character is, 1 to 4; none is E003.
 fn counter_in(cs: &[u8]) -> Number
     requires { ⌜ length (now cs) ≤ 8 ⌝ }
-    ensures counter { λ r. ⌜ r ≡ numberOf (counterIn (now (cs .entry))) ⌝ }
+    ensures counter { λ r. ⌜ numberOr 3 r ≡ counterIn (now (cs .entry)) ⌝ }
 {
     let Number::Is(c) = formats::number_in(cs, 10) else {
         return Number::No;

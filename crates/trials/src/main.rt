@@ -1,6 +1,6 @@
-// Trials of the five calls with areas of any length, driven by records of four bytes on standard input: what to do, a byte x, and a
-// number in two bytes. After each call a line tells the refusal, the lines run, the bytes written, a sum of each whole buffer, and
-// the bytes written. model/trials.py writes the input and the expected output.
+// Trials of the five calls with areas of any length, driven by records of four bytes on standard input: what to do, a byte x, and two
+// bytes more; the last three are also one number, of a button or of a length. After each call a line tells the refusal, the lines run,
+// the bytes written, a sum of each whole buffer, and the bytes written. model/trials.py writes the input and the expected output.
 ghost use Prim.Native.Nat.{_<_};
 ghost use Rattle.controller.specs.Invariant.{Invariant};
 ghost use Rattle.trials.specs.Fits.{Fits, Buffers};
@@ -30,12 +30,12 @@ struct Next {
     on: bool,
 }
 
-// A record of the input; `size` is its number with x above it.
+// A record of the input: `at` is the number in its last two bytes, `number` that in its last three, of which x is the highest.
 struct Record {
     op: u8,
     x: u8,
     at: usize,
-    size: usize,
+    number: u32,
     // all four bytes came
     whole: bool,
 }
@@ -45,6 +45,7 @@ fn tried(
     b: SwitchBox,
     op: u8,
     x: u8,
+    number: u32,
     program: &mut [u8],
     saved: &mut [u8],
     log: &mut [u8],
@@ -63,7 +64,7 @@ fn tried(
         return b.tick(program, log);
     }
     if op == b'n' {
-        return b.press(x, program, log);
+        return b.press(number, program, log);
     }
     b.empty(log, out)
 }
@@ -74,6 +75,7 @@ fn lent(
     s: Sizes,
     op: u8,
     x: u8,
+    number: u32,
     program: &mut [u8],
     saved: &mut [u8],
     log: &mut [u8],
@@ -90,6 +92,7 @@ fn lent(
         b,
         op,
         x,
+        number,
         &mut program[0..p],
         &mut saved[0..v],
         &mut log[0..l],
@@ -172,10 +175,11 @@ fn altered(area: &mut [u8], at: usize, x: u8) {
 }
 
 // So much of a buffer is lent from now on, where there is as much.
-fn resized(mut s: Sizes, op: u8, n: usize) -> Sizes
+fn resized(mut s: Sizes, op: u8, number: u32) -> Sizes
     requires { ⌜ Fits s ⌝ }
     ensures fits { λ r. ⌜ Fits r ⌝ }
 {
+    let n = number as usize;
     if op == b'P' {
         if n <= 1608 {
             s.program = n;
@@ -217,13 +221,12 @@ fn is_call(op: u8) -> bool {
 
 // The record of four bytes.
 fn made_of(op: u8, x: u8, high: u8, low: u8) -> Record {
-    let at = formats::number_of_two(high, low) as usize;
-    let size = x as usize * 65536 + at;
+    let two = formats::number_of_two(high, low);
     Record {
         op,
         x,
-        at,
-        size,
+        at: two as usize,
+        number: x as u32 * 65536 + two as u32,
         whole: true,
     }
 }
@@ -237,7 +240,7 @@ fn read_record() -> Record {
             op: 0,
             x: 0,
             at: 0,
-            size: 0,
+            number: 0,
             whole: false,
         };
     }
@@ -262,7 +265,7 @@ fn one(
     ensures kept { λ r. ⌜ Invariant (r .held .controller) ⌝ }
 {
     if is_call(r.op) {
-        let a = lent(b, s, r.op, r.x, program, saved, log, out);
+        let a = lent(b, s, r.op, r.x, r.number, program, saved, log, out);
         let line = told(output, block, a, program, saved, log, out);
         let held = a.next;
         return After { held, output: line };
@@ -309,7 +312,7 @@ fn turn(
     let a = one(b, output, s, r, program, saved, log, out, block);
     let held = a.held;
     let output = a.output;
-    let sizes = resized(s, r.op, r.size);
+    let sizes = resized(s, r.op, r.number);
     let on = output.open;
     Next {
         held,

@@ -2,5 +2,6 @@ pub mod Collecting
 pub mod Addresses
 pub mod Commands
 pub mod Quiet
+pub mod Says
 pub mod DataHeard
 pub mod Ways

@@ -39,11 +39,17 @@ QuietData x = quietData x ≡ true
 abbrev Quiet : Asked → Type 0
 Quiet q = quiet q ≡ true
 
--- only 209 and 210 are open
+-- in Pause and Auto only 209 and 210 are open
 open-one : (mode : Mode) (k : ℕ) → mode ≢ M.the-variants.Stop → isOpen mode k ≡ true → (eqb k 209 || eqb k 210) ≡ true
 open-one M.the-variants.Stop k ne e = absurd (ne refl)
 open-one M.the-variants.Pause k ne e = e
 open-one M.the-variants.Auto k ne e = e
+
+-- which are open in every mode
+pub always-open : (mode : Mode) (k : ℕ) → (eqb k 209 || eqb k 210) ≡ true → isOpen mode k ≡ true
+always-open M.the-variants.Stop k e = refl
+always-open M.the-variants.Pause k e = e
+always-open M.the-variants.Auto k e = e
 
 module _ (mode : Mode) (parameter : ℕ) (runs : mode ≢ M.the-variants.Stop) where
   special-in-quiet : (cs : List ℕ) → Ok QuietData (specialIn mode parameter cs)

@@ -216,10 +216,13 @@ fn is_writable(k: u8) -> bool
 fn is_open(mode: Mode, k: u8) -> bool
     ensures open { λ r. ⌜ r ≡ isOpen mode k ⌝ }
 {
+    if is_always_open(k) {
+        return true;
+    }
     match mode {
         Mode::Stop => true,
-        Mode::Pause => is_always_open(k),
-        Mode::Auto => is_always_open(k),
+        Mode::Pause => false,
+        Mode::Auto => false,
     }
 }
 

@@ -1,10 +1,9 @@
 -- `formats::d_in` meets its contract.
 -- Assumes nothing.
-use mathlib.Core.Path.{sym, _∙_}
 use borrow.Author.Tests.{eq-eqb, ne-eqb, le-leb, lt-leb}
 use Rattle.formats.specs.Checks.{_>>=_, _>>_, _orElse_}
 use Rattle.formats.specs.Digits.{dIn}
-use Rattle.formats.proofs.NumbersRead.{is-number, no-number}
+use Rattle.formats.proofs.NumbersRead.{number-told}
 use borrow.Author.Needs.{needs}
 use Rattle.formats.proofs.d_in.Statement.{statement}
 use Rattle.formats.proofs.d_in.Tie as tie
@@ -25,8 +24,8 @@ enum-told c = search needs
 returns-2 : tie.Need-returns-2
 unfolding dIn _>>=_ _>>_ _orElse_
 returns-2 c =
-    let e = sym (c .enum-told .given .1) ∙ c .before .before .number-in .ensures in
-    simp (eq-eqb _ _ (c .before .before .before .if1 .left), no-number 10 3 _ e)
+    let e = number-told 3 (c .enum-told .given .1) (c .before .before .number-in .ensures 3) in
+    simp (eq-eqb _ _ (c .before .before .before .if1 .left), e)
 
 returns-3 : tie.Need-returns-3
 unfolding dIn _>>=_ _>>_ _orElse_
@@ -34,8 +33,8 @@ returns-3 c =
     let if1 = c .before .before .before .before .before .if1 in
     let number-in = c .before .before .before .before .number-in in
     let v = c .before .before .v in
-    let e = sym (v .given .1) ∙ number-in .ensures in
-    simp (eq-eqb _ _ (if1 .left), is-number 10 3 _ _ e, lt-leb _ _ (c .if2 .taken))
+    let e = number-told 3 (v .given .1) (number-in .ensures 3) in
+    simp (eq-eqb _ _ (if1 .left), e, lt-leb _ _ (c .if2 .taken))
 
 cast-t6 : tie.Need-cast-t6
 cast-t6 c = search needs
@@ -46,8 +45,8 @@ returns-4 c =
     let if1 = c .before .before .before .before .before .if1 in
     let number-in = c .before .before .before .before .number-in in
     let v = c .before .before .v in
-    let e = sym (v .given .1) ∙ number-in .ensures in
-    simp (eq-eqb _ _ (if1 .left), is-number 10 3 _ _ e, le-leb _ _ (c .if2 .left))
+    let e = number-told 3 (v .given .1) (number-in .ensures 3) in
+    simp (eq-eqb _ _ (if1 .left), e, le-leb _ _ (c .if2 .left))
 
 pub d-in-spec : {M : Type 1} → statement M
 d-in-spec =

@@ -1,10 +1,9 @@
 -- `texts::for_in` meets its contract, part by part.
 -- Assumes nothing.
-use mathlib.Core.Path.{sym, _∙_}
 use Rattle.formats.specs.Checks.{_>>=_, _>>_, _orElse_}
-use Rattle.formats.proofs.NumbersRead.{is-number, no-number}
+use Rattle.formats.proofs.NumbersRead.{number-told}
 use Rattle.texts.specs.Text.{forIn}
-use Rattle.texts.proofs.LinesRead.{time-fits, is-counter, no-counter, counter-fits}
+use Rattle.texts.proofs.LinesRead.{time-fits, counter-fits}
 use borrow.Author.Needs.{needs}
 use Rattle.texts.proofs.for_in.Statement.{statement}
 use Rattle.texts.proofs.for_in.Tie as tie
@@ -29,7 +28,7 @@ enum-told c = search needs
 
 returns : tie.Need-returns
 unfolding forIn _>>=_ _>>_ _orElse_
-returns c = simp (no-counter _ (sym (c .enum-told .given .1) ∙ c .before .before .counter-in .ensures))
+returns c = simp (number-told 3 (c .enum-told .given .1) (c .before .before .counter-in .ensures))
 
 sub-number-in : tie.Need-sub-number-in
 sub-number-in c = search needs
@@ -55,7 +54,7 @@ returns-2 c =
     let counter-in = c .before .before .before .before .before .before .before .counter-in in
     let counter = c .before .before .before .before .before .counter in
     let number-in = c .before .before .number-in in
-    simp (is-counter _ _ (sym (counter .given .1) ∙ counter-in .ensures), no-number 10 3 _ (sym (c .enum-told2 .given .1) ∙ number-in .ensures))
+    simp (number-told 3 (counter .given .1) (counter-in .ensures), number-told 3 (c .enum-told2 .given .1) (number-in .ensures 3))
 
 cast-counter : tie.Need-cast-counter
 cast-counter c = search needs
@@ -70,9 +69,9 @@ returns-3 c =
     let counter = c .before .before .before .before .before .before .counter in
     let number-in = c .before .before .before .number-in in
     let cs = c .before .before .before .before .before .before .before .before .before .before .before .args .cs .now in
-    let k = (sym (counter .given .1) ∙ counter-in .ensures) in
-    let e = (sym (c .before .count .given .1) ∙ number-in .ensures) in
-    simp (is-counter _ _ k, counter-fits _ _ k, is-number 10 3 _ _ e, time-fits 2 _ cs (search needs) e)
+    let k = number-told 3 (counter .given .1) (counter-in .ensures) in
+    let e = number-told 3 (c .before .count .given .1) (number-in .ensures 3) in
+    simp (k, counter-fits _ _ k, e, time-fits 2 _ cs (search needs) e)
 
 pub for-in-spec : {M : Type 1} → statement M
 for-in-spec =

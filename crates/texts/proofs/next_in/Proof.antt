@@ -1,9 +1,9 @@
 -- `texts::next_in` meets its contract.
 -- Assumes nothing.
-use mathlib.Core.Path.{sym, _∙_}
 use Rattle.formats.specs.Checks.{_>>=_, _>>_, _orElse_}
+use Rattle.formats.proofs.NumbersRead.{number-told}
 use Rattle.texts.specs.Text.{nextIn}
-use Rattle.texts.proofs.LinesRead.{is-counter, no-counter, counter-fits}
+use Rattle.texts.proofs.LinesRead.{counter-fits}
 use borrow.Author.Needs.{needs}
 use Rattle.texts.proofs.next_in.Statement.{statement}
 use Rattle.texts.proofs.next_in.Tie as tie
@@ -28,7 +28,7 @@ enum-told c = search needs
 
 returns : tie.Need-returns
 unfolding nextIn _>>=_ _>>_ _orElse_
-returns c = simp (no-counter _ (sym (c .enum-told .given .1) ∙ c .before .before .counter-in .ensures))
+returns c = simp (number-told 3 (c .enum-told .given .1) (c .before .before .counter-in .ensures))
 
 cast-counter : tie.Need-cast-counter
 cast-counter c = search needs
@@ -36,8 +36,8 @@ cast-counter c = search needs
 returns-2 : tie.Need-returns-2
 unfolding nextIn _>>=_ _>>_ _orElse_
 returns-2 c =
-    let k = (sym (c .before .counter .given .1) ∙ c .before .before .before .counter-in .ensures) in
-    simp (is-counter _ _ k, counter-fits _ _ k)
+    let k = number-told 3 (c .before .counter .given .1) (c .before .before .before .counter-in .ensures) in
+    simp (k, counter-fits _ _ k)
 
 pub next-in-spec : {M : Type 1} → statement M
 next-in-spec =

@@ -1,9 +1,8 @@
 -- `texts::state_in` meets its contract, part by part.
 -- Assumes nothing.
-use mathlib.Core.Path.{sym, _∙_}
 use borrow.Author.Tests.{eq-eqb, ne-eqb}
 use Rattle.formats.specs.Checks.{_>>=_, _>>_, _orElse_}
-use Rattle.formats.proofs.NumbersRead.{is-number, no-number}
+use Rattle.formats.proofs.NumbersRead.{number-told}
 use Rattle.texts.specs.Text.{stateIn}
 use Rattle.texts.proofs.LinesRead.{time-fits}
 use borrow.Author.Needs.{needs}
@@ -30,14 +29,14 @@ enum-told c = search needs
 
 returns : tie.Need-returns
 unfolding stateIn _>>=_ _>>_ _orElse_
-returns c = simp (no-number 10 3 _ (sym (c .enum-told .given .1) ∙ c .before .before .number-in .ensures))
+returns c = simp (number-told 3 (c .enum-told .given .1) (c .before .before .number-in .ensures 3))
 
 returns-2 : tie.Need-returns-2
 unfolding stateIn _>>=_ _>>_ _orElse_
 returns-2 c =
     let number-in = c .before .before .before .before .number-in in
     let reserved = c .before .before .reserved in
-    simp (is-number 10 3 _ _ (sym (reserved .given .1) ∙ number-in .ensures), ne-eqb _ _ (c .if1 .taken))
+    simp (number-told 3 (reserved .given .1) (number-in .ensures 3), ne-eqb _ _ (c .if1 .taken))
 
 sub-number-in-2 : tie.Need-sub-number-in-2
 sub-number-in-2 c = search needs
@@ -65,9 +64,9 @@ returns-3 c =
     let if1 = c .before .before .before .before .if1 in
     let number-in2 = c .before .before .number-in2 in
     simp (
-      is-number 10 3 _ _ (sym (reserved .given .1) ∙ number-in .ensures),
+      number-told 3 (reserved .given .1) (number-in .ensures 3),
       eq-eqb _ _ (if1 .left),
-      no-number 16 3 _ (sym (c .enum-told2 .given .1) ∙ number-in2 .ensures),
+      number-told 3 (c .enum-told2 .given .1) (number-in2 .ensures 3),
     )
 
 sub-number-in-3 : tie.Need-sub-number-in-3
@@ -99,10 +98,10 @@ returns-4 c =
     let outputs = c .before .before .before .before .before .outputs in
     let number-in3 = c .before .before .number-in3 in
     simp (
-      is-number 10 3 _ _ (sym (reserved .given .1) ∙ number-in .ensures),
+      number-told 3 (reserved .given .1) (number-in .ensures 3),
       eq-eqb _ _ (if1 .left),
-      is-number 16 3 _ _ (sym (outputs .given .1) ∙ number-in2 .ensures),
-      no-number 10 3 _ (sym (c .enum-told3 .given .1) ∙ number-in3 .ensures),
+      number-told 3 (outputs .given .1) (number-in2 .ensures 3),
+      number-told 3 (c .enum-told3 .given .1) (number-in3 .ensures 3),
     )
 
 cast-time : tie.Need-cast-time
@@ -120,12 +119,12 @@ returns-5 c =
     let outputs = c .before .before .before .before .before .before .outputs in
     let number-in3 = c .before .before .before .number-in3 in
     let cs = args .cs .now in
-    let e = (sym (c .before .time .given .1) ∙ number-in3 .ensures) in
+    let e = number-told 3 (c .before .time .given .1) (number-in3 .ensures 3) in
     simp (
-      is-number 10 3 _ _ (sym (reserved .given .1) ∙ number-in .ensures),
+      number-told 3 (reserved .given .1) (number-in .ensures 3),
       eq-eqb _ _ (if1 .left),
-      is-number 16 3 _ _ (sym (outputs .given .1) ∙ number-in2 .ensures),
-      is-number 10 3 _ _ e,
+      number-told 3 (outputs .given .1) (number-in2 .ensures 3),
+      e,
       time-fits 11 _ cs (search needs) e,
     )
 

@@ -78,7 +78,7 @@ returns-4 c =
     let called = c .before .before in
     let start = called .before .before .before .before .before .before .before .before .before .before .before in
     let a = start .args in
-    call-kept (Calls.press (a .x)) (a .b .controller) (areas (a .program .now) [] (a .log .now) []) (called .press .ensures) (start .pre)
+    call-kept (Calls.press (a .number)) (a .b .controller) (areas (a .program .now) [] (a .log .now) []) (called .press .ensures) (start .pre)
 
 empty-requires : tie.Need-empty-requires
 empty-requires c κs = search needs

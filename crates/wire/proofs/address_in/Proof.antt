@@ -1,9 +1,8 @@
 -- `wire::address_in` meets its contract: I, D, else three digits.
 -- Assumes nothing.
-use mathlib.Core.Path.{sym, _∙_}
 use borrow.Author.Tests.{eq-eqb, ne-eqb, le-leb, lt-leb}
 use Rattle.formats.specs.Checks.{_>>=_, _>>_, _orElse_}
-use Rattle.formats.proofs.NumbersRead.{is-number, no-number}
+use Rattle.formats.proofs.NumbersRead.{number-told}
 use Rattle.wire.specs.Command.{addressIn}
 use Rattle.wire.proofs.Addresses.{five-long}
 use borrow.Author.Needs.{needs}
@@ -60,7 +59,7 @@ returns-5 c =
     let if1 = c .before .before .before .before .before .if1 in
     let if3 = c .before .before .before .before .if3 in
     let number-in = c .before .before .number-in in
-    simp (ne-eqb _ _ (if1 .left), ne-eqb _ _ (if3 .left), no-number 10 4 _ (sym (c .enum-told .given .1) ∙ number-in .ensures))
+    simp (ne-eqb _ _ (if1 .left), ne-eqb _ _ (if3 .left), number-told 4 (c .enum-told .given .1) (number-in .ensures 4))
 
 returns-6 : tie.Need-returns-6
 unfolding addressIn _>>=_ _>>_ _orElse_
@@ -69,7 +68,7 @@ returns-6 c =
     let if3 = c .before .before .before .before .before .before .if3 in
     let number-in = c .before .before .before .before .number-in in
     let k = c .before .before .k in
-    simp (ne-eqb _ _ (if1 .left), ne-eqb _ _ (if3 .left), is-number 10 4 _ _ (sym (k .given .1) ∙ number-in .ensures), lt-leb _ _ (c .if5 .taken))
+    simp (ne-eqb _ _ (if1 .left), ne-eqb _ _ (if3 .left), number-told 4 (k .given .1) (number-in .ensures 4), lt-leb _ _ (c .if5 .taken))
 
 cast-t6 : tie.Need-cast-t6
 cast-t6 c = search needs
@@ -81,7 +80,7 @@ returns-7 c =
     let if3 = c .before .before .before .before .before .before .if3 in
     let number-in = c .before .before .before .before .number-in in
     let k = c .before .before .k in
-    simp (ne-eqb _ _ (if1 .left), ne-eqb _ _ (if3 .left), is-number 10 4 _ _ (sym (k .given .1) ∙ number-in .ensures), le-leb _ _ (c .if5 .left))
+    simp (ne-eqb _ _ (if1 .left), ne-eqb _ _ (if3 .left), number-told 4 (k .given .1) (number-in .ensures 4), le-leb _ _ (c .if5 .left))
 
 pub address-in-spec : {M : Type 1} → statement M
 address-in-spec =

@@ -1,16 +1,24 @@
 -- `running::Run::run_next` meets its contract: each way out by its tests; a For that holds a counter has a later line, so the line after it fits.
 -- Assumes nothing.
+use mathlib.Core.Path.{sym, _∙_}
 use Prim.Native.Nat.{_-_}
 use native.Mathlib.Omega.{arith}
-use borrow.Author.Tests.{eq-eqb, ne-eqb, lt-ltb, le-ltb}
-use Rattle.running.proofs.Turns.{counter-range}
+use borrow.Author.Tests.{lt-ltb, le-ltb}
+use Rattle.running.proofs.Turns.{counter-range, not-free}
 use Rattle.running.specs.Running.{runLine}
 use borrow.Author.Needs.{needs}
 use Rattle.running.proofs.Run.run_next.Statement.{statement}
 use Rattle.running.proofs.Run.run_next.Tie as tie
 
+is-free-requires : tie.Need-is-free-requires
+is-free-requires c κs = search needs
+
+returns : tie.Need-returns
+unfolding runLine
+returns c = simp (sym (c .before .is-free .ensures) ∙ c .if1 .taken)
+
 sub-c : tie.Need-sub-c
-sub-c c = omega (arith, counter-range (c .args .counter) (c .pre .1))
+sub-c c = omega (arith, counter-range (c .before .before .args .counter) (c .before .before .pre .1))
 
 cast-c : tie.Need-cast-c
 cast-c c = search needs
@@ -19,30 +27,33 @@ mul-held : tie.Need-mul-held
 mul-held c = search needs
 
 element-copy-out-held : tie.Need-element-copy-out-held
-element-copy-out-held c = omega (arith, counter-range (c .args .counter) (c .pre .1))
-
-returns : tie.Need-returns
-unfolding runLine
-returns c = simp (eq-eqb _ _ (c .if1 .taken))
+element-copy-out-held c = omega (arith, counter-range (c .before .before .args .counter) (c .before .before .pre .1))
 
 sub-left : tie.Need-sub-left
-sub-left c = search needs
+sub-left c =
+    not-free _ (sym (c .before .before .before .is-free .ensures) ∙ c .before .before .if1 .left)
 
-mul-t19 : tie.Need-mul-t19
-mul-t19 c = search needs
+mul-t20 : tie.Need-mul-t20
+mul-t20 c = search needs
 
 element-set-from-self : tie.Need-element-set-from-self
 element-set-from-self c =
-    let args = c .before .before .before .args in
-    let pre = c .before .before .before .pre in
+    let args = c .before .before .before .before .before .args in
+    let pre = c .before .before .before .before .before .pre in
     omega (arith, counter-range (args .counter) (pre .1))
 
 add-self : tie.Need-add-self
-add-self c = omega (arith, c .before .before .before .pre .0 .forLine (c .before .before .before .args .counter - 1))
+add-self c =
+    let args = c .before .before .before .before .before .args in
+    let pre = c .before .before .before .before .before .pre in
+    omega (arith, pre .0 .forLine (args .counter - 1))
 
 returns-2 : tie.Need-returns-2
 unfolding runLine
-returns-2 c = simp (ne-eqb _ _ (c .before .if1 .left), lt-ltb _ _ (c .if2 .taken))
+returns-2 c =
+    let is-free = c .before .before .before .before .is-free in
+    let if1 = c .before .before .before .if1 in
+    simp (sym (is-free .ensures) ∙ if1 .left, lt-ltb _ _ (c .if2 .taken))
 
 free-requires : tie.Need-free-requires
 free-requires c κs = search needs
@@ -52,8 +63,8 @@ mul-none c = search needs
 
 element-set-from-none : tie.Need-element-set-from-none
 element-set-from-none c =
-    let args = c .before .before .before .before .args in
-    let pre = c .before .before .before .before .pre in
+    let args = c .before .before .before .before .before .before .args in
+    let pre = c .before .before .before .before .before .before .pre in
     omega (arith, counter-range (args .counter) (pre .1))
 
 onward-requires : tie.Need-onward-requires
@@ -62,21 +73,23 @@ onward-requires c κs = search needs
 returns-3 : tie.Need-returns-3
 unfolding runLine
 returns-3 c =
-    let if1 = c .before .before .before .if1 in
+    let is-free = c .before .before .before .before .before .before .is-free in
+    let if1 = c .before .before .before .before .before .if1 in
     let if2 = c .before .before .if2 in
-    simp (c .onward .ensures, c .before .free .ensures, ne-eqb _ _ (if1 .left), le-ltb _ _ (if2 .left))
+    simp (c .onward .ensures, c .before .free .ensures, sym (is-free .ensures) ∙ if1 .left, le-ltb _ _ (if2 .left))
 
 pub run-next-spec : {M : Type 1} → statement M
 run-next-spec =
     tie.close
     (tie.spec
+    is-free-requires
+    returns
     sub-c
     cast-c
     mul-held
     element-copy-out-held
-    returns
     sub-left
-    mul-t19
+    mul-t20
     element-set-from-self
     add-self
     returns-2

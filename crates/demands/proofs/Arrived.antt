@@ -1,0 +1,56 @@
+-- Laws of a command that has arrived: the box finds it as it was received.
+-- Assumes nothing.
+use mathlib.Core.Path.{_≡_, sym, ap, _∙_}
+use Prim.Native.Nat.{ℕ, _≤_}
+use native.Mathlib.Omega.{arith}
+use mathlib.Core.Bool.{false}
+use mathlib.Core.List.{List, _++_}
+use lib.ListN.{length, length-append, length-map}
+use borrow.Author.Tests.{le-ltb}
+use Rattle.formats.specs.Checks.{text}
+use Rattle.formats.proofs.Characters.{length-shown}
+use Rattle.lines.specs.declared.Line.{Line}
+use Rattle.lines.specs.declared.Line.the-variants.{State, For, Next}
+use Rattle.texts.specs.Text.{lineText}
+use Rattle.wire.specs.Collecting.{mostChars, capital, sent}
+use Rattle.wire.specs.Naming.{Names, byDigits, byI, byD}
+use Rattle.controller.specs.declared.Controller.{Controller}
+use Rattle.demands.specs.Told.{Told}
+use Rattle.demands.specs.ReadBack.{Arrives}
+use Rattle.demands.proofs.Collects.{sent-whole}
+use Rattle.demands.proofs.Agrees.{Agrees}
+
+module _ (t : Told) (c : Controller) (g : Agrees t c) (command : List ℕ) (arrived : Arrives t command) where
+  -- one of at most 32 characters is not overlong
+  pub arrives-short : length command ≤ mostChars → c .wire .overlong ≡ false
+  arrives-short few =
+      let l : length command ≡ length (t .received) = sym (ap (λ (cs : List ℕ). length cs) arrived) ∙ length-map (t .received) capital in
+      g .received .more ∙ le-ltb mostChars (length (t .received)) (omega arith)
+
+  -- and then it is found as it arrived
+  pub arrives-sent : c .wire .overlong ≡ false → sent (c .wire) ≡ command
+  arrives-sent short = sent-whole (t .received) (c .wire) (g .received) short ∙ arrived
+
+-- an address takes at most three characters, a line at most fifteen
+named-length : {next k : ℕ} {a : List ℕ} → Names next k a → length a ≤ 3
+unfolding text
+named-length {k} (byDigits e) = rw (e, length-shown 10 3 k) (omega arith)
+named-length (byI e n) = rw e (omega arith)
+named-length (byD e n) = rw e (omega arith)
+
+line-length : (l : Line) → length (lineText l) ≤ 15
+unfolding lineText text
+line-length (State o time) = simp (length-append, length-shown) (omega arith)
+line-length (For n count) = simp (length-append, length-shown) (omega arith)
+line-length (Next n) = simp length-shown (omega arith)
+
+pub read-length : {next k : ℕ} {a : List ℕ} → Names next k a → length (text "CR" ++ a) ≤ mostChars
+unfolding text
+read-length {a} n = let l = named-length n in omega arith
+
+pub write-length : {next k : ℕ} {a : List ℕ} (l : Line) → Names next k a → length (text "CW" ++ (a ++ lineText l)) ≤ mostChars
+unfolding text
+write-length {a} l n =
+    let b = named-length n in
+    let e = length-append a (lineText l) in
+    omega (arith, line-length l)

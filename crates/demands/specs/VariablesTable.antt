@@ -1,0 +1,126 @@
+-- 01, 'Variables', computed: every row of the table, the eight bytes of a line, bytes that are none, load and save.
+use mathlib.Core.List.{List, [], _∷_, _++_}
+use Prim.Native.Nat.{ℕ}
+use Rattle.controller.specs.Refusals.{powerOn}
+use Rattle.demands.specs.Exchanges.{Point, point, withCopy, _⇒_, _⇒_runs_, try, holds, alters, times, endMark, program, saved}
+use Rattle.demands.specs.CallsTable.{lent}
+
+abbrev pub eight : ℕ → ℕ → ℕ → ℕ → ℕ → ℕ → ℕ → ℕ → List ℕ
+eight a b c d e f g h = a ∷ b ∷ c ∷ d ∷ e ∷ f ∷ g ∷ h ∷ []
+
+-- Seven lines: State with time 9999 and with all outputs, For and Next with the first and the last counter, count 0 and 9999.
+abbrev pub sound : List ℕ
+sound =
+    eight 0x53 0 1 2 3 4 0x27 0x0F
+    ++ (eight 0x53 0 255 255 255 255 0 0
+    ++ (eight 0x46 1 0 0 0 0 0 0
+    ++ (eight 0x46 4 0x27 0x0F 0 0 0 0
+    ++ (eight 0x4E 1 0 0 0 0 0 0
+    ++ (eight 0x4E 4 0 0 0 0 0 0 ++ eight 0x53 0 0 0 0 5 1 0)))))
+
+-- Twenty that are no line: time or count 10,000, another first byte, a second that is not 00 or 1-4, a byte that must be 0.
+abbrev pub strange : List ℕ
+strange =
+    eight 0x53 0 1 2 3 4 0x27 0x10
+    ++ (eight 0x53 1 1 2 3 4 0 1
+    ++ (eight 0x52 0 1 2 3 4 0 1
+    ++ (eight 0x54 0 1 2 3 4 0 1
+    ++ (eight 0x46 1 0x27 0x10 0 0 0 0
+    ++ (eight 0x46 0 0 1 0 0 0 0
+    ++ (eight 0x46 5 0 1 0 0 0 0
+    ++ (eight 0x46 1 0 1 1 0 0 0
+    ++ (eight 0x46 1 0 1 0 1 0 0
+    ++ (eight 0x46 1 0 1 0 0 1 0
+    ++ (eight 0x46 1 0 1 0 0 0 1
+    ++ (eight 0x45 1 0 1 0 0 0 0
+    ++ (eight 0x47 1 0 1 0 0 0 0
+    ++ (eight 0x4E 0 0 0 0 0 0 0
+    ++ (eight 0x4E 5 0 0 0 0 0 0
+    ++ (eight 0x4E 1 1 0 0 0 0 0
+    ++ (eight 0x4E 1 0 0 0 0 0 1
+    ++ (eight 0x4D 1 0 0 0 0 0 0 ++ (eight 0x4F 1 0 0 0 0 0 0 ++ eight 0 0 0 0 0 0 0 0))))))))))))))))))
+
+unfoldable pub variables : List Point
+variables =
+    -- at power-on: "200 [...] end mark with outputs 0 at power-on", "210 [...] 000 at first", "parameter 0", "event 012"
+    point (
+    "CR000^CR199^CR200^" ⇒ "S00000000000000^S00000000000000^S00000000000000^"
+    ∷ "CR201^CR202^CR203^CR204^CR205^CR206^CR207^CR208^" ⇒ "80^00^00^00^00^00^00^000^"
+    ∷ "CR209^CR210^CR211^CR212^CR213^CR214^CR215^CR216^" ⇒ "000^000^000^012^0000^0000^0000^0000^"
+    -- "212 last event; reading it clears code and D7"
+    ∷ "CR212^CR201^" ⇒ "000^00^"
+    ∷ []
+    )
+    -- every variable with something in it, while a program runs and is paused; by I too 212 is read and cleared
+    ∷ point (
+    "CW010F10011^CWIF20022^CWIF30033^CWIF44444^CWIS00A1B2C3D40009^CWIN4^CWIN3^CWIN2^CWIN1^" ⇒ "OK^OK^OK^OK^OK^OK^OK^OK^OK^"
+    ∷ "CW200S00000000070000^CW209010^CW210005^" ⇒ "OK^OK^OK^" runs 4
+    ∷ "CR010^CR014^CR018^CR200^" ⇒ "F10011^S00A1B2C3D40009^N1^S00000000070000^"
+    ∷ "CRI^CRI^CRI^CRI^CRI^CRI^CRI^CRI^" ⇒ "82^00^A1^B2^C3^D4^00^000^"
+    ∷ "CRI^CRI^CRI^CRI^CRI^CRI^CRI^CRI^" ⇒ "010^005^014^012^0011^0022^0033^4444^"
+    ∷ "CR201^CR212^%CR201^CR202^CR207^CR208^" ⇒ "02^000^03^00^00^000^"
+    ∷ "%########CR216^" ⇒ "4444^"
+    ∷ "#" ⇒ "" runs 1
+    ∷ "CR213^CR214^CR215^CR216^CR211^" ⇒ "0011^0022^0033^4443^014^"
+    -- "Stop frees the loops and keeps outputs and line."
+    ∷ "CW210001^CR213^CR214^CR215^CR216^CR211^CR203^CR204^CR205^CR206^CR201^CR212^" ⇒ "OK^0000^0000^0000^0000^014^A1^B2^C3^D4^00^000^"
+    -- "Power-on: outputs 0, stopped, line 000, parameter 0"; what was collected is gone
+    ∷ "CR2" ⇒ ""
+    ∷ try powerOn (lent 1600 1600 24 0) 0
+    ∷ "^CR201^CR202^CR203^CR204^CR205^CR206^CR207^CR208^" ⇒ "E001^80^00^00^00^00^00^00^000^"
+    ∷ "CR209^CR210^CR211^CR212^CR213^CR214^CR215^CR216^CR200^CR010^" ⇒ "000^000^000^012^0000^0000^0000^0000^S00000000000000^S00000000000000^"
+    ∷ "CWIN1^CR001^CR002^" ⇒ "OK^N1^S00000000000000^"
+    ∷ []
+    )
+    -- "203-206 outputs 32-25, 24-17, 16-9, 8-1"; "A write to 203-206 alters its eight bits of the output word and no other bit."
+    ∷ point (
+    "CW203A1^CW204B2^CW205C3^CW206D4^CR203^CR204^CR205^CR206^" ⇒ "OK^OK^OK^OK^A1^B2^C3^D4^"
+    ∷ "CW20300^CR203^CR204^CR205^CR206^" ⇒ "OK^00^B2^C3^D4^"
+    ∷ "CW2040F^CR203^CR204^CR205^CR206^" ⇒ "OK^00^0F^C3^D4^"
+    ∷ "CW20500^CR203^CR204^CR205^CR206^" ⇒ "OK^00^0F^00^D4^"
+    ∷ "CW206FF^CR203^CR204^CR205^CR206^" ⇒ "OK^00^0F^00^FF^"
+    -- "State: 53 00 X4 X3 X2 X1": X4 is the byte of 203
+    ∷ "CW200S00123456780001^CW209200^CW210006^CR203^CR204^CR205^CR206^" ⇒ "OK^OK^OK^12^34^56^78^"
+    ∷ []
+    )
+    -- "A line is 8 bytes. [...] high byte first": each in its place, and no other byte alters
+    ∷ point (
+    "CW000S00123456789876^CW001F29999^CW198F40258^CW199N3^CW200N2^" ⇒ "OK^OK^OK^OK^OK^"
+    ∷ holds program 0 (eight 0x53 0 0x12 0x34 0x56 0x78 0x26 0x94 ++ (eight 0x46 2 0x27 0x0F 0 0 0 0 ++ times 2 endMark))
+    ∷ holds program 1576 (endMark ++ (eight 0x46 4 1 2 0 0 0 0 ++ eight 0x4E 3 0 0 0 0 0 0))
+    ∷ holds saved 0 endMark
+    ∷ "CR000^CR001^CR198^CR199^CR200^" ⇒ "S00123456789876^F29999^F40258^N3^N2^"
+    ∷ []
+    )
+    -- "Power-on and command 007 load the saved copy in that cleaned form"; the copy stays as it was
+    ∷ withCopy 27 (sound ++ strange) (
+    holds program 0 (sound ++ times 21 endMark)
+    ∷ holds program 1592 endMark
+    ∷ holds saved 0 (sound ++ strange)
+    ∷ "CR000^CRI^CRI^CRI^CRI^CRI^CRI^CRI^" ⇒ "S00010203049999^S00FFFFFFFF0000^F10000^F49999^N1^N4^S00000000050256^S00000000000000^"
+    ∷ "CW000N2^CW199N2^CW200N3^CW20655^CW209007^CW210007^" ⇒ "OK^OK^OK^OK^OK^OK^"
+    ∷ holds program 0 (sound ++ times 21 endMark)
+    ∷ holds program 1592 endMark
+    ∷ holds saved 0 (sound ++ strange)
+    -- lines 000-199, and nothing else
+    ∷ "CR200^CR206^CR209^CR210^CR211^CR212^" ⇒ "N3^55^007^007^000^012^"
+    ∷ []
+    )
+    -- "Eight bytes that are none of these count as a State with outputs 0 and time 0 wherever they are read"; "008 saves the program
+    -- area likewise cleaned, leaving the area as it was"
+    ∷ point (
+    alters program 0 strange
+    ∷ alters program 1592 (eight 0x46 3 0 7 0 0 0 0)
+    ∷ "CR000^CRI^CRI^CRI^CRI^CRI^CRI^" ⇒ "S00000000000000^S00000000000000^S00000000000000^S00000000000000^S00000000000000^S00000000000000^S00000000000000^"
+    ∷ "CRI^CRI^CRI^CRI^CRI^CRI^CRI^" ⇒ "S00000000000000^S00000000000000^S00000000000000^S00000000000000^S00000000000000^S00000000000000^S00000000000000^"
+    ∷ "CRI^CRI^CRI^CRI^CRI^CRI^" ⇒ "S00000000000000^S00000000000000^S00000000000000^S00000000000000^S00000000000000^S00000000000000^"
+    ∷ "CW20655^CW210006^CR206^CW20655^CR212^CW210003^CR206^CR212^CR211^" ⇒ "OK^OK^00^OK^012^OK^00^011^000^"
+    ∷ "CW210008^CR210^" ⇒ "OK^008^"
+    ∷ holds program 0 strange
+    ∷ holds program 1592 (eight 0x46 3 0 7 0 0 0 0)
+    ∷ holds saved 0 (times 21 endMark)
+    ∷ holds saved 1592 (eight 0x46 3 0 7 0 0 0 0)
+    ∷ "CW000N1^CW199N2^CW210008^CW000N3^CW199N4^CW210007^CR000^CR199^" ⇒ "OK^OK^OK^OK^OK^OK^N1^N2^"
+    ∷ []
+    )
+    ∷ []
