@@ -43,7 +43,7 @@ use Rattle.demands.specs.Told.{Told, afterwards}
 use Rattle.demands.proofs.Collects.{byte-collects}
 use Rattle.demands.proofs.Agrees.{Agrees, Hears, anError, aRead, aLine, anOutput, aParameter, aSpecial, as-told}
 use Rattle.demands.proofs.Agrees.{toldEvent, toldRun, toldWire, toldPanel, toldMoved, toldTicks, event-agrees, raise-agrees, run-agrees, wire-agrees}
-use Rattle.demands.proofs.Agrees.{panel-agrees, ticks-agrees, moved-agrees, execute-agrees, named-line}
+use Rattle.demands.proofs.Agrees.{panel-agrees, ticks-agrees, log-agrees, moved-agrees, execute-agrees, named-line}
 
 -- ---- a finished command
 
@@ -190,21 +190,7 @@ module _ (t : Told) (c : Controller) (a : Areas) (g : Agrees t c) where
 
   emptying-agrees : Agrees (afterwards emptying silence a t) (emptyLog c a .state)
   unfolding afterwards emptyLog writing emptied
-  emptying-agrees = record {
-    ticks = g .ticks;
-    run = g .run;
-    paused = g .paused;
-    nextRead = g .nextRead;
-    nextWrite = g .nextWrite;
-    received = g .received;
-    single = g .single;
-    fits = g .fits;
-    parameter = g .parameter;
-    special = g .special;
-    event = g .event;
-    unread = g .unread;
-    logLength = g .logLength;
-  }
+  emptying-agrees = log-agrees t c g (emptied (c .log .length)) refl
 
 -- what was refused is not said
 not-refused : {q : Asked} {e : ℕ} → passed q ≡ refused e → ⊥

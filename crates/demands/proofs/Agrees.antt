@@ -8,6 +8,7 @@ use lib.Dec.{eqb}
 use Rattle.formats.specs.Checks.{if_then_else_, Res, refused, passed}
 use Rattle.lines.specs.declared.Line.{Line}
 use Rattle.lines.specs.declared.Line.the-variants.{State, For, Next}
+use Rattle.log.specs.declared.Log.{Log}
 use Rattle.lines.specs.Line.{readLine, bytesOf}
 use Rattle.lines.specs.Program.{lineAt}
 use Rattle.lines.proofs.Lines.{Fits}
@@ -22,7 +23,7 @@ use Rattle.wire.specs.declared.Asked.{Asked}
 use Rattle.wire.specs.declared.Asked.the-variants.{Read, Write}
 use Rattle.controller.specs.declared.Controller.{Controller}
 use Rattle.wire.specs.declared.Wire.{Wire}
-use Rattle.controller.specs.Controller.{Areas, withRun, withPaused, withTicks, withWire, withSingle, withParameter, withSpecial, withEvent}
+use Rattle.controller.specs.Controller.{withLog, Areas, withRun, withPaused, withTicks, withWire, withSingle, withParameter, withSpecial, withEvent}
 use Rattle.controller.specs.Deeds.{raise, moved, execute, special}
 use Rattle.controller.specs.Refusals.{Call}
 use Rattle.controller.specs.Variables.{lineOf}
@@ -241,6 +242,24 @@ module _ (t : Told) (c : Controller) (g : Agrees t c) where
     event = g .event;
     unread = g .unread;
     logLength = g .logLength;
+  }
+
+  -- the log, which the history says otherwise (`demands/Changes`), but for its length
+  pub log-agrees : (l : Log) → l .length ≡ c .log .length → Agrees t (withLog l c)
+  log-agrees l e = record {
+    ticks = g .ticks;
+    run = g .run;
+    paused = g .paused;
+    nextRead = g .nextRead;
+    nextWrite = g .nextWrite;
+    received = g .received;
+    single = g .single;
+    fits = g .fits;
+    parameter = g .parameter;
+    special = g .special;
+    event = g .event;
+    unread = g .unread;
+    logLength = e ∙ g .logLength;
   }
 
 module _ (t : Told) (c : Controller) (g : Agrees t c) where

@@ -1,16 +1,15 @@
 -- Laws of the history: one call more, and it agrees with the box again; calls after calls.
 -- Assumes nothing.
-use mathlib.Core.Path.{_≡_, refl, sym, ap, subst, _∙_}
+use mathlib.Core.Path.{_≡_, refl, sym, ap, subst}
 use Prim.Native.Nat.{ℕ}
 use native.Mathlib.Omega.{arith}
 use mathlib.Core.Bool.{Bool, true, false, true≢false}
 use mathlib.Core.List.{List, [], _∷_, _++_}
 use lib.ListN.{length}
 use Rattle.formats.specs.Checks.{if_then_else_}
-use Rattle.log.specs.declared.Log.{Log}
 use Rattle.log.specs.Log.{emptied}
 use Rattle.controller.specs.declared.Controller.{Controller}
-use Rattle.controller.specs.Controller.{Areas, withLog, fresh}
+use Rattle.controller.specs.Controller.{Areas, fresh}
 use Rattle.controller.specs.Deeds.{powerUp}
 use Rattle.controller.specs.Refusals.{Call, powerOn, byte, tick, press, emptying}
 use Rattle.controller.specs.Effects.{isPowerOn}
@@ -21,29 +20,11 @@ use Rattle.demands.specs.Histories.{Made, Held, unpowered, isAccepted, n
 use Rattle.demands.specs.Seen.{note, notes}
 use Rattle.demands.specs.Told.{Told, powered, afterwards, said, tell, tellAll, told}
 use Rattle.demands.proofs.Steps.{deed, heldThen, Step, passes, fails, stepped, refused-held}
-use Rattle.demands.proofs.Agrees.{Agrees}
+use Rattle.demands.proofs.Agrees.{Agrees, log-agrees}
 use Rattle.demands.proofs.Agreement.{does-agrees}
 use Rattle.demands.proofs.Heard.{hears}
 
 -- ---- one call
-
--- the box with its log altered agrees as before
-relogged : (t : Told) (c : Controller) (l : Log) → l .length ≡ c .log .length → Agrees t c → Agrees t (withLog l c)
-relogged t c l e g = record {
-  ticks = g .ticks;
-  run = g .run;
-  paused = g .paused;
-  nextRead = g .nextRead;
-  nextWrite = g .nextWrite;
-  received = g .received;
-  single = g .single;
-  fits = g .fits;
-  parameter = g .parameter;
-  special = g .special;
-  event = g .event;
-  unread = g .unread;
-  logLength = e ∙ g .logLength;
-}
 
 -- power-on
 pub fresh-agrees : (n : ℕ) → Agrees (powered n) (fresh n)
@@ -68,7 +49,7 @@ fresh-agrees n = record {
 passed-agrees : (t : Told) (h : Held) (m : Made) → Agrees t (deed h m .state) → next h m ≡ heldThen h m → Agrees t (next h m .state)
 passed-agrees t h m g f =
     subst (λ (c : Controller). Agrees t c) (sym (ap (λ (x : Held). x .state) f))
-    (relogged t (deed h m .state) _ (logged-length (m .call) (h .state) (deed h m)) g)
+    (log-agrees t (deed h m .state) g _ (logged-length (m .call) (h .state) (deed h m)))
 
 -- ---- what the history says of it
 
