@@ -14,7 +14,7 @@ use Rattle.formats.specs.Checks.{if_then_else_}
 use Rattle.log.specs.declared.Change.{Change}
 use Rattle.log.specs.declared.Log.{Log}
 use Rattle.log.specs.Record.{recordSize, leastArea}
-use Rattle.log.specs.Log.{R, Logged, addChange, heldBytes, records, emptied}
+use Rattle.log.specs.Log.{places, R, Logged, addChange, heldBytes, records, emptied}
 use Rattle.log.proofs.Held.{held-fits, length-records}
 use Rattle.log.proofs.Counting.{Counts, counts-nothing, counts-more, record-due, held-counts}
 use Rattle.controller.specs.declared.Controller.{Controller}
@@ -30,7 +30,7 @@ use Rattle.controller.proofs.Logging.{Ordinary, aByte, aTick, aPress, does-log,
 use Rattle.demands.specs.Histories.{Made, emptyingTo, Held, unpowered, outcome, isAccepted, next, after}
 use Rattle.demands.specs.Seen.{isTaken, seen, note, notes}
 use Rattle.demands.specs.Told.{Told, powered, tell, told}
-use Rattle.demands.specs.Changes.{change, sinceCall, since, changes, places, heldAfter, logBy, logThen}
+use Rattle.demands.specs.Changes.{change, sinceCall, since, changes, heldAfter, logBy, logThen}
 use Rattle.demands.proofs.Steps.{deed, Step, passes, fails, stepped, refused-held}
 use Rattle.demands.proofs.Answered.{next-invariant, invariant-always}
 use Rattle.demands.proofs.Agrees.{Agrees}

@@ -13,7 +13,7 @@ use Rattle.formats.specs.Checks.{if_then_else_}
 use Rattle.log.specs.declared.Change.{Change}
 use Rattle.log.specs.declared.Log.{Log}
 use Rattle.log.specs.Record.{leastArea}
-use Rattle.log.specs.Log.{R, Logged, addChange, records, emptied, history}
+use Rattle.log.specs.Log.{places, R, Logged, addChange, records, emptied, history}
 use Rattle.log.proofs.Histories.{Holds, holds-nothing, holds-more, records-tell}
 use Rattle.controller.specs.Controller.{Areas, fresh}
 use Rattle.controller.specs.Deeds.{over, writing, load, emptyLog, powerUp}
@@ -26,7 +26,7 @@ use Rattle.controller.proofs.Logging.{Ordinary, aByte, aTick, aPress, logged-is
 use Rattle.demands.specs.Histories.{Made, powering, emptyingTo, Held, unpowered, outcome, isAccepted, next, after, HandsOn, AllHandOn}
 use Rattle.demands.specs.Seen.{isTaken, seen, note, notes}
 use Rattle.demands.specs.Told.{Told, powered, tell, tellAll, told}
-use Rattle.demands.specs.Changes.{change, sinceCall, since, changes, places}
+use Rattle.demands.specs.Changes.{change, sinceCall, since, changes}
 use Rattle.demands.proofs.Answered.{next-invariant, invariant-always}
 use Rattle.demands.proofs.Agrees.{Agrees}
 use Rattle.demands.proofs.Changing.{change-as-told, no-change}

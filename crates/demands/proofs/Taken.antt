@@ -8,7 +8,7 @@ use mathlib.Core.Bool.{Bool, true, false, not, _&&_, true≢false}
 use mathlib.Core.List.{List, [], _∷_, _++_}
 use borrow.Author.Tests.{eq-eqb}
 use Rattle.formats.specs.Checks.{if_then_else_, Res, refused, passed, _>>_, _orElse_, all}
-use Rattle.log.specs.Log.{heldBytes}
+use Rattle.log.specs.Log.{places, heldBytes}
 use Rattle.controller.specs.declared.Controller.{Controller}
 use Rattle.controller.specs.Controller.{Areas}
 use Rattle.controller.specs.Refusals.{Call, powerOn, byte, tick, press, emptying, isProgram, lent, check}
@@ -18,7 +18,7 @@ use Rattle.controller.proofs.Refusals.{refused-call}
 use Rattle.demands.specs.Histories.{Made, unpowered, outcome, after}
 use Rattle.demands.specs.Seen.{isTaken, seen, note, notes}
 use Rattle.demands.specs.Told.{Told, powered, tell, tellAll, told}
-use Rattle.demands.specs.Changes.{changes, places, heldAfter}
+use Rattle.demands.specs.Changes.{changes, heldAfter}
 use Rattle.demands.specs.Lent.{firstOf, refusalOf}
 use Rattle.demands.proofs.Agrees.{Agrees}
 use Rattle.demands.proofs.Telling.{told-more}

@@ -9,12 +9,11 @@ use mathlib.Core.List.{List, [], _∷_, _++_}
 use lib.ListN.{length, length-append}
 use lib.Dec.{ltb, eqb}
 use borrow.Author.Tests.{ltb-true, ltb-false, lt-ltb, le-ltb, eqb-true, eqb-false}
-use Rattle.formats.specs.Checks.{if_then_else_}
 use Rattle.formats.proofs.Checks.{if-case}
 use Rattle.log.specs.declared.Change.{Change}
 use Rattle.log.specs.declared.Log.{Log}
-use Rattle.log.specs.Record.{leastArea, changeRecord, gapRecord}
-use Rattle.log.specs.Log.{R, mostLost, Logged, recorded, oneMoreLost, addChange, held, emptied}
+use Rattle.log.specs.Record.{leastArea}
+use Rattle.log.specs.Log.{R, mostLost, recordDue, Logged, recorded, oneMoreLost, addChange, held, emptied}
 use Rattle.log.proofs.Histories.{one-more-is}
 
 -- after the changes cs since emptying
@@ -25,10 +24,6 @@ pub record Counts (cs : List Change) (l : Log) : Type 0 where
 pub counts-nothing : (n : ℕ) → Counts [] (emptied n)
 unfolding emptied
 counts-nothing n = record { keptIs = omega arith; lostIs = omega arith }
-
--- the record that is due for the change c after the changes cs, where there are n places: the change, or from the n-th on the gap
-abbrev pub recordDue : ℕ → List Change → Change → List ℕ
-recordDue n cs c = if ltb (length cs + 1) n then changeRecord c else gapRecord (c .tick) (min (length cs + 1 - (n - 1)) mostLost)
 
 module _ (cs : List Change) (l : Log) (area : List ℕ) (c : Change) (enough : leastArea ≤ l .length) (h : Counts cs l) where
   more : length (cs ++ (c ∷ [])) ≡ length cs + 1
