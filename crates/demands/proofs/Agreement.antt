@@ -50,14 +50,15 @@ use Rattle.demands.proofs.Agrees.{panel-agrees, ticks-agrees, log-agree
 module _ (t : Told) (c : Controller) (a : Areas) (g : Agrees t c) where
   error-agrees : (e : ℕ) → Agrees (afterwards (byte 13) silence a t) (answer (refused e) c a .state)
   unfolding afterwards answer writing toldWire
-  error-agrees e = wire-agrees t c g (cleared (c .wire)) (t .nextRead) (t .nextWrite) [] (g .nextRead) (g .nextWrite) (record { first = refl; more = refl })
+  error-agrees e =
+      wire-agrees t c g (cleared (c .wire)) (t .nextRead) (t .nextWrite) [] (g .wire .nextRead) (g .wire .nextWrite) (record { first = refl; more = refl })
 
   read-agrees : (k : ℕ) → Agrees (afterwards (byte 13) (reads k) a t) (answer (passed (Read k)) c a .state)
   unfolding afterwards answer writing toldWire toldEvent
   read-agrees k = go (eqb k 212) refl
     where
       done : Agrees (toldWire (k + 1) (t .nextWrite) [] t) (withWire (Collecting.readTo k (cleared (c .wire))) c)
-      done = wire-agrees t c g _ (k + 1) (t .nextWrite) [] refl (g .nextWrite) (record { first = refl; more = refl })
+      done = wire-agrees t c g _ (k + 1) (t .nextWrite) [] refl (g .wire .nextWrite) (record { first = refl; more = refl })
 
       go : (b : Bool) → eqb k 212 ≡ b → Agrees (afterwards (byte 13) (reads k) a t) (answer (passed (Read k)) c a .state)
       go true e = rw e (event-agrees _ _ done 0 false refl)
@@ -66,14 +67,14 @@ module _ (t : Told) (c : Controller) (a : Areas) (g : Agrees t c) where
   -- a write moves its direction's address, and leaves the rest to its data
   wrote-agrees : (k : ℕ) → Agrees (toldWire (t .nextRead) (k + 1) [] t) (wroteTo k (emptyCollection c))
   wrote-agrees k =
-      wire-agrees t c g (Collecting.wroteTo k (cleared (c .wire))) (t .nextRead) (k + 1) [] (g .nextRead) refl (record { first = refl; more = refl })
+      wire-agrees t c g (Collecting.wroteTo k (cleared (c .wire))) (t .nextRead) (k + 1) [] (g .wire .nextRead) refl (record { first = refl; more = refl })
 
   line-agrees : (k : ℕ) (l : Line) → Fits l → Agrees (afterwards (byte 13) (writesLine k l) a t) (answer (passed (Write k (WriteLine l))) c a .state)
   unfolding afterwards answer writing write toldWire toldPanel
   line-agrees k l fits = go (eqb k 200) refl
     where
       go : (b : Bool) → eqb k 200 ≡ b → Agrees (afterwards (byte 13) (writesLine k l) a t) (answer (passed (Write k (WriteLine l))) c a .state)
-      go true e = rw (e, write) (panel-agrees _ _ (wrote-agrees k) (bytesOf l) l _ _ _ _ refl fits (g .parameter) (g .special))
+      go true e = rw (e, write) (panel-agrees _ _ (wrote-agrees k) (bytesOf l) l _ _ _ _ refl fits (g .panel .parameter) (g .panel .special))
       go false e = rw (e, write) (wrote-agrees k)
 
   outputs-agrees : (k x : ℕ) → Agrees (afterwards (byte 13) (writesOutputs k x) a t) (answer (passed (Write k (WriteOutputs x))) c a .state)
@@ -83,12 +84,13 @@ module _ (t : Told) (c : Controller) (a : Areas) (g : Agrees t c) where
 
   parameter-agrees : (v : ℕ) → Agrees (afterwards (byte 13) (writesParameter v) a t) (answer (passed (Write 209 (WriteParameter v))) c a .state)
   unfolding afterwards answer writing write toldWire toldPanel
-  parameter-agrees v = panel-agrees _ _ (wrote-agrees 209) _ (t .single) v v _ _ (g .single) (g .fits) refl (g .special)
+  parameter-agrees v = panel-agrees _ _ (wrote-agrees 209) _ (t .single) v v _ _ (g .panel .single) (g .panel .fits) refl (g .panel .special)
 
   -- the special command s, with all done that is common to the eight
   given-agrees : (s : Special)
       → Agrees (toldPanel (t .single) (t .parameter) (codeOf s) (toldWire (t .nextRead) 211 [] t)) (withSpecial (codeOf s) (wroteTo 210 (emptyCollection c)))
-  given-agrees s = panel-agrees _ _ (wrote-agrees 210) _ (t .single) _ (t .parameter) (codeOf s) (codeOf s) (g .single) (g .fits) (g .parameter) refl
+  given-agrees s =
+      panel-agrees _ _ (wrote-agrees 210) _ (t .single) _ (t .parameter) (codeOf s) (codeOf s) (g .panel .single) (g .panel .fits) (g .panel .parameter) refl
 
   special-agrees : (s : Special) → Agrees (afterwards (byte 13) (gives (codeOf s)) a t) (answer (passed (Write 210 (WriteSpecial s))) c a .state)
   unfolding afterwards answer writing write special stop startAt toldWire toldPanel toldRun toldEvent Variables.lineOf
@@ -96,7 +98,7 @@ module _ (t : Told) (c : Controller) (a : Areas) (g : Agrees t c) where
   special-agrees Pause = run-agrees _ _ (given-agrees Pause) _ _ true true (g .run) refl
   special-agrees Start = moved-agrees _ _ (given-agrees Start) _ _ a (ap (λ (r : Run). start (a .program) 0 (r .outputs)) (g .run))
   special-agrees Continue = run-agrees _ _ (given-agrees Continue) _ _ false false (g .run) refl
-  special-agrees StartAt = moved-agrees _ _ (given-agrees StartAt) _ _ a (ap₂ (λ k (r : Run). start (a .program) k (r .outputs)) (g .parameter) (g .run))
+  special-agrees StartAt = moved-agrees _ _ (given-agrees StartAt) _ _ a (ap₂ (λ k (r : Run). start (a .program) k (r .outputs)) (g .panel .parameter) (g .run))
   special-agrees Execute = execute-agrees _ _ (given-agrees Execute) _ _ (byte 13) (gives 6) a (named-line t c g (byte 13) (gives 6) a)
   special-agrees Load = given-agrees Load
   special-agrees Save = given-agrees Save
@@ -146,9 +148,9 @@ module _ (t : Told) (c : Controller) (a : Areas) (g : Agrees t c) where
   byte-agrees x i e =
       rw (e, Deeds.byte)
       (wire-agrees t c g (collect x (c .wire)) (t .nextRead) (t .nextWrite) _
-      (ap (λ (w : Wire). w .nextread) (collect-is x (c .wire)) ∙ g .nextRead)
-      (ap (λ (w : Wire). w .nextwrite) (collect-is x (c .wire)) ∙ g .nextWrite)
-      (byte-collects (t .received) (c .wire) i (g .received) x))
+      (ap (λ (w : Wire). w .nextread) (collect-is x (c .wire)) ∙ g .wire .nextRead)
+      (ap (λ (w : Wire). w .nextwrite) (collect-is x (c .wire)) ∙ g .wire .nextWrite)
+      (byte-collects (t .received) (c .wire) i (g .wire .received) x))
 
   -- a tick is counted; while paused it does nothing more
   tick-agrees : Agrees (afterwards tickCall silence a t) (ticked c a .state)

@@ -25,11 +25,11 @@ module _ (t : Told) (c : Controller) (g : Agrees t c) (command : List ℕ) (arri
   pub arrives-short : length command ≤ mostChars → c .wire .overlong ≡ false
   arrives-short few =
       let l : length command ≡ length (t .received) = sym (ap (λ (cs : List ℕ). length cs) arrived) ∙ length-map (t .received) capital in
-      g .received .more ∙ le-ltb mostChars (length (t .received)) (omega arith)
+      g .wire .received .more ∙ le-ltb mostChars (length (t .received)) (omega arith)
 
   -- and then it is found as it arrived
   pub arrives-sent : c .wire .overlong ≡ false → sent (c .wire) ≡ command
-  arrives-sent short = sent-whole (t .received) (c .wire) (g .received) short ∙ arrived
+  arrives-sent short = sent-whole (t .received) (c .wire) (g .wire .received) short ∙ arrived
 
 -- an address takes at most three characters, a line at most fifteen
 named-length : {next k : ℕ} {a : List ℕ} → Names next k a → length a ≤ 3

@@ -47,5 +47,5 @@ pub finds-what-was-received : (ms : List Made) → let w = after unpowered ms .s
     (sent w ≡ map capital (take mostChars cs)) × (w .overlong ≡ ltb mostChars (length cs))
 unfolding sent
 finds-what-was-received ms =
-    let c = held-as-told ms .received in
+    let c = held-as-told ms .wire .received in
     (ap (map capital) (c .first), c .more)

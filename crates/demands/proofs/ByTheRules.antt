@@ -63,7 +63,7 @@ starts-as-told : (t : Told) (h : Held) (m : Made) → Agrees t (h .state) → In
 unfolding startLine
 starts-as-told t h m g i ok =
     ap₂ (λ (on : Bool) (x : ℕ × ℕ). if isPress 1 (m .call) && not on then some 0 else startBy (x .0) (x .1)) (ap (λ (r : Run). r .on) (g .run))
-    (ap₂ (λ code parameter. (code, parameter)) (given-as-told (hears h m t g i ok)) (g .parameter))
+    (ap₂ (λ code parameter. (code, parameter)) (given-as-told (hears h m t g i ok)) (g .panel .parameter))
 
 -- an accepted start moves the run as the rules' start does, and leaves the program
 start-moves : (h : Held) (m : Made) (k : ℕ) → isAccepted h m ≡ true → HandsOn h m → startLine (m .call) (h .state) ≡ some k

@@ -89,14 +89,15 @@ module _ (h : Held) (a : Areas) (t : Told) (g : Agrees t (h .state)) (i : Invari
   spoken-hears : (q : Asked) → Spoken (h .state .wire) q → asked (h .state) ≡ passed q
       → Hears (passed q) (spoken (t .nextRead) (t .nextWrite) (map capital (t .received)))
   spoken-hears (Read k) s f =
-      let e = sent-whole (t .received) (h .state .wire) (g .received) (s .short) in
+      let e = sent-whole (t .received) (h .state .wire) (g .wire .received) (s .short) in
       let le : k ≤ 216 = ok-at (Sound (mode (h .state)) (h .state .panel .parameter)) (asked-sound _ _ (h .state .wire) (i .wire)) f in
-      subst (λ x. Hears (passed (Read k)) x) (sym (spoken-read t (map capital (t .received)) k (rw e at (s .says .0)) (rw (e, g .nextRead) at (s .says .1))))
+      subst (λ x. Hears (passed (Read k)) x)
+      (sym (spoken-read t (map capital (t .received)) k (rw e at (s .says .0)) (rw (e, g .wire .nextRead) at (s .says .1))))
       (aRead k le)
   spoken-hears (Write k x) s f =
-      let e = sent-whole (t .received) (h .state .wire) (g .received) (s .short) in
+      let e = sent-whole (t .received) (h .state .wire) (g .wire .received) (s .short) in
       subst (λ y. Hears (passed (Write k x)) y)
-      (sym (spoken-write t (map capital (t .received)) k (rw e at (s .says .0)) (rw (e, g .nextWrite) at (s .says .1))))
+      (sym (spoken-write t (map capital (t .received)) k (rw e at (s .says .0)) (rw (e, g .wire .nextWrite) at (s .says .1))))
       (data-hears k (rest (map capital (t .received))) x (rw e at (s .says .2)))
 
   end-hears : Hears (asked (h .state)) (said t (note h (ending a)))

@@ -42,7 +42,7 @@ module _ (t : Told) (c : Controller) (a : Areas) (g : Agrees t c) where
   special-lines Pause = refl
   special-lines Start = ap (λ (r : Run). start (a .program) 0 (r .outputs) .lines) (g .run)
   special-lines Continue = refl
-  special-lines StartAt = ap₂ (λ k (r : Run). start (a .program) k (r .outputs) .lines) (g .parameter) (g .run)
+  special-lines StartAt = ap₂ (λ k (r : Run). start (a .program) k (r .outputs) .lines) (g .panel .parameter) (g .run)
   special-lines Execute = refl
   special-lines Load = refl
   special-lines Save = refl

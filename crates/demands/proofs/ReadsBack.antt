@@ -84,7 +84,7 @@ module _ (h : Held) (t : Told) (g : Agrees t (h .state)) (a : Areas) (k : ℕ) (
       let short = ok-at (Spoken (h .state .wire)) (command-says (h .state .wire) (mode (h .state)) (h .state .panel .parameter)) (q .1) .short in
       let p = ok-at (WritesLine k line)
       (write-asked (h .state .wire) (mode (h .state)) (h .state .panel .parameter) short k address line inside (arrives-sent t (h .state) g _ arrived short)
-      (rw (g .nextWrite) named)) (q .1) in
+      (rw (g .wire .nextWrite) named)) (q .1) in
       go (p .line) (q .1 ∙ ap passed (p .writes)) (stepped h (ending a)) (p .sentAs)
     where
       go : (l : Line) → asked (h .state) ≡ passed (Write k (WriteLine l)) → Step h (ending a) → Sent line l
@@ -169,7 +169,7 @@ read-line h t g a k address inside arrived named taken hands =
     reply-is h a taken
     ∙ ap (λ r. replyOf r (h .state) a)
     (read-asked (h .state .wire) (mode (h .state)) (h .state .panel .parameter) short k address (omega arith) (arrives-sent t (h .state) g _ arrived short)
-    (rw (g .nextRead) named))
+    (rw (g .wire .nextRead) named))
     ∙ rw (le-leb k 200 inside) (ap (λ p. ended (lineText (lineOf (h .state) p k))) (hands .program refl refl taken))
 
 -- ---- the demand
@@ -218,4 +218,4 @@ line-accepted before a k inside address l fits arrived named off taken =
     reply-is h a taken
     ∙ ap (λ r. replyOf r (h .state) a)
     (write-accepted (h .state .wire) (mode (h .state)) (h .state .panel .parameter) short k address l fits stop inside
-    (arrives-sent (told before) (h .state) g _ arrived short) (rw (g .nextWrite) named))
+    (arrives-sent (told before) (h .state) g _ arrived short) (rw (g .wire .nextWrite) named))

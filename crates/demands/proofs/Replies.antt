@@ -33,12 +33,13 @@ module _ (t : Told) (c : Controller) (g : Agrees t c) where
   asked-as-told : asked c ≡ commandOf t
   unfolding command commandIn commandOf sent
   asked-as-told =
-      rw (g .received .first, g .received .more, g .nextRead, g .nextWrite, g .parameter, g .run, g .paused)
+      rw (g .wire .received .first, g .wire .received .more, g .wire .nextRead, g .wire .nextWrite, g .panel .parameter, g .run, g .paused)
 
   panel-as-told : c .panel ≡ panelOf t
   panel-as-told =
       ap₂ (λ (b : List ℕ × Bool) (n : ℕ × ℕ × ℕ). record { single = b .0; parameter = n .0; special = n .1; event = n .2; unread = b .1 })
-      (ap₂ (λ s u. (s, u)) (g .single) (g .unread)) (ap₂ (λ p (n : ℕ × ℕ). (p, n .0, n .1)) (g .parameter) (ap₂ (λ x e. (x, e)) (g .special) (g .event)))
+      (ap₂ (λ s u. (s, u)) (g .panel .single) (g .panel .unread))
+      (ap₂ (λ p (n : ℕ × ℕ). (p, n .0, n .1)) (g .panel .parameter) (ap₂ (λ x e. (x, e)) (g .panel .special) (g .panel .event)))
 
   reply-as-told : (r : Res Asked) (a : Areas) → replyOf r c a ≡ replyTo r t (a .program)
   reply-as-told (refused e) a = refl
@@ -68,7 +69,7 @@ reads-as-told ms a k inside address arrived named taken =
     let g = held-as-told ms in
     let short = arrives-short (told ms) c g _ arrived (read-length named) in
     let reads = read-asked (c .wire) (mode c) (c .panel .parameter) short k address inside (arrives-sent (told ms) c g _ arrived short)
-    (rw (g .nextRead) named) in (
+    (rw (g .wire .nextRead) named) in (
       reply-is (after unpowered ms) a taken ∙ ap (λ r. replyOf r c a) reads ∙ reply-as-told (told ms) c g (passed (Read k)) a,
       value-in-format (panelOf (told ms)) (told ms .run) (told ms .paused) (a .program) k inside,
     )

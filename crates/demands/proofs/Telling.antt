@@ -33,15 +33,8 @@ fresh-agrees n = record {
   ticks = refl;
   run = refl;
   paused = refl;
-  nextRead = refl;
-  nextWrite = refl;
-  received = record { first = refl; more = refl };
-  single = refl;
-  fits = (omega arith, omega arith);
-  parameter = refl;
-  special = refl;
-  event = refl;
-  unread = refl;
+  wire = record { nextRead = refl; nextWrite = refl; received = record { first = refl; more = refl } };
+  panel = record { single = refl; fits = (omega arith, omega arith); parameter = refl; special = refl; event = refl; unread = refl };
   logLength = refl;
 }
 
