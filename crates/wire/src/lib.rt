@@ -1,23 +1,22 @@
 // The wire: characters are collected, byte 13 ends a command, and the checks decide what it asks for.
 // Definitions: specs/Collecting.antt, specs/Command.antt; specs/HeardCommand.antt for what the types of the answers stand for.
 ghost use mathlib.Core.Path.{_≡_};
-ghost use mathlib.Core.Bool.{true, _||_};
+ghost use mathlib.Core.Bool.{true};
 ghost use mathlib.Core.List.{map};
 ghost use Prim.Native.Nat.{_≤_};
-ghost use lib.Dec.{eqb};
-ghost use lib.ListN.{length, take, drop};
-ghost use Rattle.formats.specs.NumbersAndTexts.{byteOf};
+ghost use lib.ListN.{length, take};
 ghost use Rattle.wire.specs.Collecting.{freshWire, readTo, wroteTo, collect, cleared, capital};
-ghost use Rattle.wire.specs.Command.{isStepwise, addressIn, isWritable, isOpen, rest, hasAddress, inFormat};
+ghost use Rattle.wire.specs.Command.{hasAddress, inFormat};
 ghost use Rattle.wire.specs.Command.{specialIn, dataIn, readCommand, writeCommand, commandIn, command};
 ghost use Rattle.wire.specs.HeardCommand.{givenOf, heardOf};
 use formats::Byte;
-use formats::Number;
 use lines::Line;
 use special::Mode;
 use special::Named;
 use special::Special;
 use texts::Parsed;
+
+mod address;
 
 // What is collected, and where each direction stands.
 #[repr(C)]
@@ -147,85 +146,6 @@ fn capitals(chars: [u8; 32], len: usize) -> [u8; 32]
     copy
 }
 
-// The address is I or D.
-fn is_stepwise(cs: &[u8]) -> bool
-    requires { ⌜ 3 ≤ length (now cs) ⌝ }
-    ensures stepwise { λ r. ⌜ r ≡ isStepwise (now (cs .entry)) ⌝ }
-{
-    let third = cs[2];
-    if third == b'I' {
-        return true;
-    }
-    third == b'D'
-}
-
-// Check 3, the address: three digits, I or D; E004 where it is none of 000-216.
-fn address_in(next: u8, cs: &[u8]) -> Byte
-    requires { ⌜ (3 ≤ length (now cs)) × (hasAddress (now cs) ≡ true) ⌝ }
-    ensures address { λ r. ⌜ r ≡ byteOf (addressIn next (now (cs .entry))) ⌝ }
-{
-    let third = cs[2];
-    if third == b'I' {
-        if 216 < next {
-            return Byte::Error(4);
-        }
-        return Byte::Is(next);
-    }
-    if third == b'D' {
-        if next < 2 {
-            return Byte::Error(4);
-        }
-        return Byte::Is(next - 2);
-    }
-    let Number::Is(k) = formats::number_in(&cs[2..5], 10) else {
-        return Byte::Error(4);
-    };
-    if 216 < k {
-        return Byte::Error(4);
-    }
-    Byte::Is(k as u8)
-}
-
-// The two addresses that can be written while running or paused.
-fn is_always_open(k: u8) -> bool
-    ensures either { λ r. ⌜ r ≡ (eqb k 209 || eqb k 210) ⌝ }
-{
-    if k == 209 {
-        return true;
-    }
-    k == 210
-}
-
-// Every address but 201, 202, 207, 208 and 211-216 can be written.
-fn is_writable(k: u8) -> bool
-    ensures writable { λ r. ⌜ r ≡ isWritable k ⌝ }
-{
-    if k <= 200 {
-        return true;
-    }
-    if k < 203 {
-        return false;
-    }
-    if k <= 206 {
-        return true;
-    }
-    is_always_open(k)
-}
-
-// Check 4: while running or paused only 209 and 210 can be written.
-fn is_open(mode: Mode, k: u8) -> bool
-    ensures open { λ r. ⌜ r ≡ isOpen mode k ⌝ }
-{
-    if is_always_open(k) {
-        return true;
-    }
-    match mode {
-        Mode::Stop => true,
-        Mode::Pause => false,
-        Mode::Auto => false,
-    }
-}
-
 // Check 7: the special command that a code names; E003 where it names none, the table's error where it is forbidden in the present state,
 // E004 where the parameter is out of its reach.
 fn special_in(mode: Mode, parameter: u8, cs: &[u8]) -> Given
@@ -287,29 +207,18 @@ fn data_in(mode: Mode, parameter: u8, k: u8, cs: &[u8]) -> Given
     special_in(mode, parameter, cs)
 }
 
-// Where the rest of a command begins, behind its address.
-fn rest_at(cs: &[u8]) -> usize
-    requires { ⌜ (3 ≤ length (now cs)) × (hasAddress (now cs) ≡ true) ⌝ }
-    ensures rest { λ r. ⌜ (r ≤ length (now (cs .entry))) × (drop r (now (cs .entry)) ≡ rest (now (cs .entry))) ⌝ }
-{
-    if is_stepwise(cs) {
-        return 3;
-    }
-    5
-}
-
 // A read: the address, and nothing behind it.
 fn read_command(next: u8, cs: &[u8]) -> Heard
     requires { ⌜ (3 ≤ length (now cs)) × (hasAddress (now cs) ≡ true) ⌝ }
     ensures read { λ r. ⌜ r ≡ heardOf (readCommand next (now (cs .entry))) ⌝ }
 {
-    let k = match address_in(next, cs) {
+    let k = match address::address_in(next, cs) {
         Byte::Is(k) => k,
         Byte::Error(e) => {
             return Heard::Error(e);
         }
     };
-    if rest_at(cs) < cs.len() {
+    if address::rest_at(cs) < cs.len() {
         return Heard::Error(2);
     }
     Heard::Is(Asked::Read(k))
@@ -320,15 +229,15 @@ fn write_command(mode: Mode, parameter: u8, next: u8, cs: &[u8]) -> Heard
     requires { ⌜ (3 ≤ length (now cs)) × (hasAddress (now cs) ≡ true) ⌝ }
     ensures write { λ r. ⌜ r ≡ heardOf (writeCommand mode parameter next (now (cs .entry))) ⌝ }
 {
-    let k = match address_in(next, cs) {
+    let k = match address::address_in(next, cs) {
         Byte::Is(k) => k,
         Byte::Error(e) => {
             return Heard::Error(e);
         }
     };
-    if is_writable(k) {
-        if is_open(mode, k) {
-            let at = rest_at(cs);
+    if address::is_writable(k) {
+        if address::is_open(mode, k) {
+            let at = address::rest_at(cs);
             let data = match data_in(mode, parameter, k, &cs[at..]) {
                 Given::Is(data) => data,
                 Given::Error(e) => {
@@ -340,17 +249,6 @@ fn write_command(mode: Mode, parameter: u8, next: u8, cs: &[u8]) -> Heard
         return Heard::Error(5);
     }
     Heard::Error(4)
-}
-
-// The third character is I or D, or there are five.
-fn has_address(cs: &[u8]) -> bool
-    requires { ⌜ 3 ≤ length (now cs) ⌝ }
-    ensures address { λ r. ⌜ r ≡ hasAddress (now (cs .entry)) ⌝ }
-{
-    if is_stepwise(cs) {
-        return true;
-    }
-    5 <= cs.len()
 }
 
 // Check 2: not overlong, C, then R or W, and room for an address.
@@ -366,10 +264,10 @@ fn in_format(overlong: bool, cs: &[u8]) -> bool
     }
     let second = cs[1];
     if second == b'R' {
-        return has_address(cs);
+        return address::has_address(cs);
     }
     if second == b'W' {
-        return has_address(cs);
+        return address::has_address(cs);
     }
     false
 }

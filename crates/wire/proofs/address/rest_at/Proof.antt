@@ -1,10 +1,10 @@
--- `wire::rest_at` meets its contract.
+-- `wire::address::rest_at` meets its contract.
 -- Assumes nothing.
 use mathlib.Core.Path.{sym, _∙_}
 use Rattle.wire.proofs.Addresses.{no-step-long}
 use borrow.Author.Needs.{needs}
-use Rattle.wire.proofs.rest_at.Statement.{statement}
-use Rattle.wire.proofs.rest_at.Tie as tie
+use Rattle.wire.proofs.address.rest_at.Statement.{statement}
+use Rattle.wire.proofs.address.rest_at.Tie as tie
 
 is-stepwise-requires : tie.Need-is-stepwise-requires
 is-stepwise-requires c κs = search needs

@@ -1,10 +1,10 @@
--- `wire::is_writable` meets its contract, by tests from below.
+-- `wire::address::is_writable` meets its contract, by tests from below.
 -- Assumes nothing.
 use borrow.Author.Needs.{needs}
 use borrow.Author.Tests.{ne-eqb, le-leb, lt-leb}
 use native.Mathlib.Omega.{arith}
-use Rattle.wire.proofs.is_writable.Statement.{statement}
-use Rattle.wire.proofs.is_writable.Tie as tie
+use Rattle.wire.proofs.address.is_writable.Statement.{statement}
+use Rattle.wire.proofs.address.is_writable.Tie as tie
 
 returns : tie.Need-returns
 returns c = simp (le-leb _ _ (c .if1 .taken))

@@ -1,4 +1,4 @@
--- `wire::address_in` meets its contract: I, D, else three digits.
+-- `wire::address::address_in` meets its contract: I, D, else three digits.
 -- Assumes nothing.
 use borrow.Author.Tests.{eq-eqb, ne-eqb, le-leb, lt-leb}
 use Rattle.formats.specs.Checks.{_>>=_, _>>_, _orElse_}
@@ -6,8 +6,8 @@ use Rattle.formats.proofs.NumbersRead.{number-told}
 use Rattle.wire.specs.Command.{addressIn}
 use Rattle.wire.proofs.Addresses.{five-long}
 use borrow.Author.Needs.{needs}
-use Rattle.wire.proofs.address_in.Statement.{statement}
-use Rattle.wire.proofs.address_in.Tie as tie
+use Rattle.wire.proofs.address.address_in.Statement.{statement}
+use Rattle.wire.proofs.address.address_in.Tie as tie
 
 shared-slice-read-third : tie.Need-shared-slice-read-third
 shared-slice-read-third c = search needs

@@ -1,9 +1,9 @@
--- `wire::is_stepwise` meets its contract.
+-- `wire::address::is_stepwise` meets its contract.
 -- Assumes nothing.
 use borrow.Author.Tests.{eq-eqb, ne-eqb}
 use borrow.Author.Needs.{needs}
-use Rattle.wire.proofs.is_stepwise.Statement.{statement}
-use Rattle.wire.proofs.is_stepwise.Tie as tie
+use Rattle.wire.proofs.address.is_stepwise.Statement.{statement}
+use Rattle.wire.proofs.address.is_stepwise.Tie as tie
 
 shared-slice-read-third : tie.Need-shared-slice-read-third
 shared-slice-read-third c = search needs

@@ -1,8 +1,8 @@
--- `wire::is_always_open` meets its contract.
+-- `wire::address::is_always_open` meets its contract.
 -- Assumes nothing.
 use borrow.Author.Tests.{eq-eqb, ne-eqb}
-use Rattle.wire.proofs.is_always_open.Statement.{statement}
-use Rattle.wire.proofs.is_always_open.Tie as tie
+use Rattle.wire.proofs.address.is_always_open.Statement.{statement}
+use Rattle.wire.proofs.address.is_always_open.Tie as tie
 
 returns : tie.Need-returns
 returns c = simp (eq-eqb _ _ (c .if1 .taken))

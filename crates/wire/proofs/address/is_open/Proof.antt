@@ -1,10 +1,10 @@
--- `wire::is_open` meets its contract: 209 and 210 in every mode, the others mode by mode.
+-- `wire::address::is_open` meets its contract: 209 and 210 in every mode, the others mode by mode.
 -- Assumes nothing.
 use mathlib.Core.Path.{sym, _∙_}
 use Rattle.wire.proofs.Quiet.{always-open}
 use borrow.Author.Needs.{needs}
-use Rattle.wire.proofs.is_open.Statement.{statement}
-use Rattle.wire.proofs.is_open.Tie as tie
+use Rattle.wire.proofs.address.is_open.Statement.{statement}
+use Rattle.wire.proofs.address.is_open.Tie as tie
 
 is-always-open-requires : tie.Need-is-always-open-requires
 is-always-open-requires c κs = search needs

@@ -1,9 +1,9 @@
--- `wire::has_address` meets its contract.
+-- `wire::address::has_address` meets its contract.
 -- Assumes nothing.
 use mathlib.Core.Path.{sym, _∙_}
 use borrow.Author.Needs.{needs}
-use Rattle.wire.proofs.has_address.Statement.{statement}
-use Rattle.wire.proofs.has_address.Tie as tie
+use Rattle.wire.proofs.address.has_address.Statement.{statement}
+use Rattle.wire.proofs.address.has_address.Tie as tie
 
 is-stepwise-requires : tie.Need-is-stepwise-requires
 is-stepwise-requires c κs = search needs
