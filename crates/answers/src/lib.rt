@@ -32,13 +32,6 @@ fn empty_collection(c: Controller) -> Controller
     s
 }
 
-// "An error reply changes nothing but the emptied collection": the last addresses stay too.
-fn after_error(c: Controller) -> Controller
-    ensures left { λ r. ⌜ r ≡ emptyCollection c ⌝ }
-{
-    empty_collection(c)
-}
-
 // The reply is written, with byte 13 at its end.
 fn said(d: Unlogged, t: Text, reply: &mut [u8]) -> Unlogged
     requires { ⌜ (t .len ≤ 15) × (16 ≤ length (now reply)) ⌝ }
@@ -133,14 +126,14 @@ fn answer_write(
     said(d, ok_text(), reply)
 }
 
-// An error answers its number.
+// An error changes nothing but the emptied collection.
 fn answer_error(c: Controller, e: u8, reply: &mut [u8]) -> Unlogged
     requires { ⌜ 16 ≤ length (now reply) ⌝ }
     ensures done { λ r. ⌜ ((p s l : List ℕ) → onAreas r (areas p s l (now (reply .exit))) ≡
         answer (refused e) c (areas p s l (now (reply .entry)))) ⌝ }
 {
     said(
-        deeds::nothing_run(after_error(c)),
+        deeds::nothing_run(empty_collection(c)),
         formats::error_text(e),
         reply,
     )

@@ -5,8 +5,8 @@ use borrow.Author.Needs.{needs}
 use Rattle.answers.proofs.answer_error.Statement.{statement}
 use Rattle.answers.proofs.answer_error.Tie as tie
 
-after-error-requires : tie.Need-after-error-requires
-after-error-requires c κs = search needs
+empty-collection-requires : tie.Need-empty-collection-requires
+empty-collection-requires c κs = search needs
 
 nothing-run-requires : tie.Need-nothing-run-requires
 nothing-run-requires c κs = search needs
@@ -23,18 +23,18 @@ same-length c = search needs
 returns : tie.Need-returns
 returns c =
     let args = c .before .before .before .before .before .before .before .before .args in
-    let after-error = c .before .before .before .before .before .before .after-error in
+    let empty-collection = c .before .before .before .before .before .before .empty-collection in
     let nothingRun = c .before .before .before .before .before .nothing-run in
     let error-text = c .before .before .before .before .error-text in
     let said = c .before .before .said in
-    λ p s l. error-answered (args .c) p s l (args .reply .now) _ _ (args .e) (error-text .ensures .0) _ (after-error .ensures) _
+    λ p s l. error-answered (args .c) p s l (args .reply .now) _ _ (args .e) (error-text .ensures .0) _ (empty-collection .ensures) _
     (nothingRun .ensures) (said .ensures p s l)
 
 pub answer-error-spec : {M : Type 1} → statement M
 answer-error-spec =
     tie.close
     (tie.spec
-    after-error-requires
+    empty-collection-requires
     nothing-run-requires
     error-text-requires
     said-requires
