@@ -1,8 +1,8 @@
 /* nizhalepu.h: the proved controller of a 32-way switch box, for a main loop in C.
  *
  * Link with target/staticlib/libnizhalepu.a (x86-64), which `rt staticlib nizhalepu` proves and makes; all
- * that it needs of a C library is memcpy. The rules are those of document 01; the Rattle source of these
- * calls, with their contracts, is crates/nizhalepu/src/lib.rt.
+ * that it needs of a C library is memcpy. The rules are those of document 01, and of document 02, item 1, for
+ * the log as text; the Rattle source of these calls, with their contracts, is crates/nizhalepu/src/lib.rt.
  *
  * Who owns what. The caller owns the record and every area. The library keeps no pointer, allocates
  * nothing, has no data of its own but constants and calls nothing back; each call ends.
@@ -36,7 +36,9 @@ enum {
     NIZHALEPU_LOG_LEAST = 24,    /* the log area, and as at power-on ever after */
     NIZHALEPU_LOG_MOST = 65536,
     NIZHALEPU_LOG_RECORD = 12,   /* one record of the log */
-    NIZHALEPU_REPLY = 16         /* the reply area, at least; the longest reply fills it */
+    NIZHALEPU_REPLY = 16,        /* the reply area, at least; the longest reply fills it */
+    NIZHALEPU_LIST_MOST = 65532, /* a log that is listed: 5,461 records, the most that one emptying gives */
+    NIZHALEPU_TEXT = 141986      /* the text area, at least: 5,461 lines of at most 26 bytes */
 };
 
 /* ---- refusals: the number that a call gives, 0 where it is accepted; checked in this order */
@@ -136,6 +138,18 @@ struct nizhalepu_said nizhalepu_press(struct nizhalepu_record *record, uint32_t 
 struct nizhalepu_said nizhalepu_empty(struct nizhalepu_record *record,
                                       const uint8_t *log, size_t log_length,
                                       uint8_t *destination, size_t destination_length);
+
+/* ---- the emptied log as text. It takes no record, and for a log bytes of any number and content.
+ *
+ * Each record is one line: tick, kind and cause in decimal, the value in eight capital hex digits, a space
+ * between them and LF (10) behind. A log that no box can have written between two emptyings has the text
+ * of its refusal alone, E, three digits and LF, the first that applies: E056 more than NIZHALEPU_LIST_MOST
+ * bytes, E050 no whole number of records; then record by record E051 wrong mark, E052 impossible record.
+ *
+ * Answers the length of the text, which stands at the start of the text area; the rest of the area stays.
+ * An area shorter than NIZHALEPU_TEXT gets nothing, and the answer is 0, as for an empty log: lend one that
+ * is as long. */
+size_t nizhalepu_list(const uint8_t *log, size_t log_length, uint8_t *text, size_t text_length);
 
 #ifdef __cplusplus
 }

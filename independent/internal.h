@@ -8,7 +8,10 @@
 
 #include "box.h"
 
-/* DAMAGE 0 is the box; 1 to 10 give it one known error each, to see that a comparison finds it. */
+/*
+ * DAMAGE 0 is the box and the reader of its log; 1 to 10 give the box, 11 to 17 the reader one known error each, to see that a
+ * comparison finds it.
+ */
 #ifndef DAMAGE
 #define DAMAGE 0
 #endif
@@ -97,6 +100,20 @@ struct lent { /* to a wire byte, once their lengths are checked */
     uint8_t *saved;
     uint8_t *log;
 };
+
+/* ---- numbers in an area: high byte first ---- */
+
+static inline uint32_t two_bytes(const uint8_t *bytes)
+{
+    return (uint32_t)bytes[0] << 8 | bytes[1];
+}
+
+static inline uint32_t four_bytes(const uint8_t *bytes)
+{
+    return two_bytes(bytes) << 16 | two_bytes(bytes + 2);
+}
+
+/* ---- what several calls check ---- */
 
 /* 031. The length given at power-on is 24 to 65,536, or 0 after a refused one; so this covers both bounds. */
 static inline bool log_refused(const struct box *box, size_t log_length)

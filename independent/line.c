@@ -5,16 +5,6 @@
 
 static const uint8_t end_mark[LINE_BYTES] = {'S'};
 
-static uint32_t two_bytes(const uint8_t *bytes)
-{
-    return (uint32_t)bytes[0] << 8 | bytes[1];
-}
-
-static uint32_t four_bytes(const uint8_t *bytes)
-{
-    return two_bytes(bytes) << 16 | two_bytes(bytes + 2);
-}
-
 static bool is_counter(uint8_t number)
 {
     return number >= 1 && number <= COUNTERS;

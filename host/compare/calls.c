@@ -1,15 +1,18 @@
-/* calls.c: random calls on both boxes, in episodes. */
+/* calls.c: random calls on both boxes, in episodes, and the logs that these give on both readers. */
 #ifndef _GNU_SOURCE
 #define _GNU_SOURCE
 #endif
 #include "clock.h"
 #include "compare.h"
+#include "lists.h"
 #include "maker.h"
 #include "shrink.h"
 #include "statistics.h"
 
+#include <errno.h>
 #include <inttypes.h>
 #include <stdio.h>
+#include <string.h>
 #include <unistd.h>
 
 enum { ENOUGH = 1000000, SHRINK_SECONDS = 20 };
@@ -18,6 +21,8 @@ struct calls {
     uint64_t calls;
     uint64_t seed;
     struct statistics statistics;
+    struct lists lists;
+    bool altered; /* the log, since power-on or the last emptying */
     uint64_t start, shown; /* in nanoseconds of the clock */
     bool terminal;
 };
@@ -49,28 +54,54 @@ static void report_difference(struct calls *calls, struct both *both, struct ste
     printf("To see it again: compare --calls %" PRIu64 " --seed %" PRIu64 "\n", calls->calls, calls->seed);
 }
 
+static void report_list(struct calls *calls)
+{
+    if (calls->terminal) fputc('\n', stderr);
+    printf("A DIFFERENCE in the text of log %" PRIu64 " of seed %" PRIu64 ", after %" PRIu64 " calls:\n", calls->lists.read + 1,
+           calls->seed, calls->statistics.calls);
+    lists_print_difference(&calls->lists);
+    printf("To see it again: compare --calls %" PRIu64 " --seed %" PRIu64 "\n", calls->calls, calls->seed);
+}
+
+/* What an emptying gave is read by both readers; false if they differ. */
+static bool read_emptied(struct calls *calls, const struct both *both, const struct step *step)
+{
+    const struct said *said = &both->said[PROVED];
+    if (step->kind == ALTER) {
+        calls->altered = calls->altered || step->value == LOG;
+        return true;
+    }
+    if (said->refusal != 0 || (step->kind != POWER_ON && step->kind != EMPTY)) return true;
+    bool altered = calls->altered;
+    calls->altered = false;
+    return step->kind == POWER_ON || lists_emptied(&calls->lists, both->area[PROVED][DESTINATION], said->written, altered);
+}
+
 /* One episode; false if it ended in a difference. */
 static bool episode(struct calls *calls, struct maker *maker, uint64_t sub_seed)
 {
     struct both both;
     struct steps history = {0};
     struct statistics *statistics = &calls->statistics;
-    bool equal = true;
+    bool equal = true, listed = true;
     size_t length = episode_begin(maker, &both, sub_seed);
     uint64_t end = statistics->calls + length;
     if (end > calls->calls) end = calls->calls;
     statistics_begin(statistics);
-    while (equal && statistics->calls < end) {
+    while (equal && listed && statistics->calls < end) {
         const struct step *step = episode_next(maker);
         steps_add(&history, step);
         equal = both_do(&both, step);
         if (equal) statistics_count(statistics, step, &both);
+        listed = !equal || read_emptied(calls, &both, step);
         show_progress(calls);
     }
+    listed = listed && (!equal || lists_made_up(&calls->lists));
     if (!equal) report_difference(calls, &both, &history, sub_seed);
+    if (!listed) report_list(calls);
     steps_free(&history);
     both_free(&both);
-    return equal;
+    return equal && listed;
 }
 
 static int finish(struct calls *calls)
@@ -79,21 +110,30 @@ static int finish(struct calls *calls)
     if (calls->terminal) fputc('\n', stderr);
     printf("%" PRIu64 " calls on both boxes in %.1f s: equal in every return value and in every byte of every area.\n",
            calls->statistics.calls, seconds);
+    printf("%" PRIu64 " logs on both readers: equal in every text and in every byte behind it.\n", calls->lists.read);
     bool met = statistics_print(&calls->statistics);
     if (met || calls->calls < ENOUGH) return 0;
     puts("\nNEVER MET: a class above shows 0 (or not all addresses), so this run has not shown what it claims.");
     return 1;
 }
 
-int compare_calls(uint64_t calls, uint64_t seed)
+static int cannot_write(const char *logs)
+{
+    fprintf(stderr, "compare: cannot write %s: %s\n", logs, strerror(errno));
+    return 2;
+}
+
+int compare_calls(uint64_t calls, uint64_t seed, const char *logs)
 {
     struct calls run = {.calls = calls, .seed = seed, .start = clock_nanoseconds(), .terminal = isatty(STDERR_FILENO) == 1};
     struct chance seeds = {seed};
     struct maker maker = {0};
-    bool equal = true;
+    bool equal = lists_begin(&run.lists, &run.statistics, seed, logs);
+    if (!equal) return cannot_write(logs);
     run.shown = run.start;
     printf("seed %" PRIu64 "\n", seed);
     while (equal && run.statistics.calls < calls) equal = episode(&run, &maker, chance_next(&seeds));
     steps_free(&maker.row);
+    if (!lists_end(&run.lists)) return cannot_write(logs);
     return equal ? finish(&run) : 1;
 }

@@ -1,10 +1,11 @@
-/* compare.h: what the program can be asked for. Each answers its exit status: 0 equal, 1 not. */
+/* compare.h: what the program can be asked for. Each answers its exit status: 0 equal, 1 not, 2 no file to write to. */
 #ifndef COMPARE_COMPARE_H
 #define COMPARE_COMPARE_H
 
 #include <stdint.h>
 
-int compare_calls(uint64_t calls, uint64_t seed);
+/* `logs` names a file that gets every log read and its text, or is NULL. */
+int compare_calls(uint64_t calls, uint64_t seed, const char *logs);
 int compare_speed(void);
 int compare_stack(void);
 int compare_limits(void);

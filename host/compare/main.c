@@ -9,14 +9,19 @@
 enum { BAD_USAGE = 2, USUAL_CALLS = 10000000 };
 
 static const char usage[] =
-    "compare [--calls N] [--seed S]  random calls on the proved box and on the independent one: every return value and\n"
+    "compare [--calls N] [--seed S] [--logs FILE]\n"
+    "                                random calls on the proved box and on the independent one: every return value and\n"
     "                                every byte of every area compared after every call (N ten million if not given,\n"
-    "                                S from the clock); a difference prints a short history that shows it\n"
-    "compare speed                   nanoseconds per call of both, on the same calls\n"
+    "                                S from the clock); a difference prints a short history that shows it. Each log\n"
+    "                                that they give, spoiled copies of it and logs made up go to both readers, and the\n"
+    "                                texts are compared; a difference prints a short log. FILE gets every log read and\n"
+    "                                its text, each after its length (four bytes, high byte first), for\n"
+    "                                python3 model/loglist.py --check FILE\n"
+    "compare speed                   nanoseconds per call of both, on the same calls, and per log of both readers\n"
     "compare stack                   bytes of stack that calls of both take\n"
     "compare limits                  the last tick count and the most changes that a gap can count; takes many minutes\n"
     "compare --help                  this text\n"
-    "Exit status: 0 equal, 1 a difference or a class of calls never met, 2 bad usage.\n";
+    "Exit status: 0 equal, 1 a difference or a class of calls or logs never met, 2 bad usage or no FILE.\n";
 
 static int bad_usage(void)
 {
@@ -41,13 +46,18 @@ static int calls(int count, char **words)
 {
     uint64_t calls = USUAL_CALLS;
     uint64_t seed = (uint64_t)time(NULL) * 1000003u + clock_nanoseconds() % 1000003u;
+    const char *logs = NULL;
     for (int i = 1; i < count; i += 2) {
         uint64_t *value = NULL;
+        if (i + 1 == count) return bad_usage();
         if (strcmp(words[i], "--calls") == 0) value = &calls;
         if (strcmp(words[i], "--seed") == 0) value = &seed;
-        if (value == NULL || i + 1 == count || !number(words[i + 1], value)) return bad_usage();
+        if (strcmp(words[i], "--logs") == 0)
+            logs = words[i + 1];
+        else if (value == NULL || !number(words[i + 1], value))
+            return bad_usage();
     }
-    return calls == 0 ? bad_usage() : compare_calls(calls, seed);
+    return calls == 0 ? bad_usage() : compare_calls(calls, seed, logs);
 }
 
 int main(int count, char **words)

@@ -108,11 +108,33 @@ static bool print_running(const struct statistics *statistics)
     return met;
 }
 
+static bool print_logs(const struct statistics *statistics)
+{
+    static const char *const names[LISTED] = {
+        [LISTED_NONE] = "none at all",
+        [LISTED_CHANGES] = "changes",
+        [LISTED_GAP] = "changes and a gap",
+        [LISTED_MOST_CHANGES] = "5,460 changes",
+        [LISTED_FULL] = "5,460 changes and a gap",
+        [LISTED_E050] = "E050 length not a multiple of 12",
+        [LISTED_E051] = "E051 wrong mark",
+        [LISTED_E052] = "E052 impossible record",
+        [LISTED_E052_OVER] = "E052 and 5,461 records, the last of them no gap",
+        [LISTED_E056] = "E056 too long",
+        [LISTED_NO_ROOM] = "too little room for the text",
+    };
+    bool met = true;
+    puts("\n  logs as text");
+    for (int l = 0; l < LISTED; l++) met &= class(names[l], statistics->listed[l]);
+    return met;
+}
+
 bool statistics_print(const struct statistics *statistics)
 {
     bool met = print_calls(statistics);
     met &= print_replies(statistics);
     met &= print_specials(statistics);
     met &= print_running(statistics);
+    met &= print_logs(statistics);
     return met;
 }

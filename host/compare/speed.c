@@ -1,13 +1,17 @@
-/* speed.c: nanoseconds per call of both boxes. Rounds of the one and of the other take turns in the same run, with the same
- * calls; the median of the rounds counts. The calls are made directly, so that nothing else is measured but a loop. */
+/* speed.c: nanoseconds per call of both boxes, and per log of both readers. Rounds of the one and of the other take turns in the
+ * same run, with the same calls; the median of the rounds counts. The calls are made directly, so that nothing else is measured
+ * but a loop. */
 #include "both.h"
 #include "clock.h"
 #include "compare.h"
 #include "line.h"
+#include "loglist.h"
+#include "logs.h"
 #include "prepare.h"
 
 #include <stdio.h>
 #include <stdlib.h>
+#include <string.h>
 
 enum { ROUNDS = 41, LOG_LENGTH = 65536, COMMANDS = 100, TICKS = 50000 };
 
@@ -135,6 +139,13 @@ static int by_size(const void *a, const void *b)
     return (*x > *y) - (*x < *y);
 }
 
+static void print_medians(const char *name, double times[BOXES][ROUNDS], bool equal)
+{
+    for (int i = 0; i < BOXES; i++) qsort(times[i], ROUNDS, sizeof(double), by_size);
+    double proved = times[PROVED][ROUNDS / 2], independent = times[INDEPENDENT][ROUNDS / 2];
+    printf("  %-44s %10.1f %12.1f %8.2f%s\n", name, proved, independent, proved / independent, equal ? "" : "  NOT EQUAL");
+}
+
 static double round_of(const struct measure *measure, struct both *both, int which, uint64_t *sum)
 {
     measure->prepare(both, which);
@@ -164,10 +175,36 @@ static bool measure(const struct measure *measure)
             times[i][n] = round_of(measure, &both, i, &sums[i]);
         }
     bool equal = sums[PROVED] == sums[INDEPENDENT] && both_areas_equal(&both);
-    for (int i = 0; i < BOXES; i++) qsort(times[i], ROUNDS, sizeof(double), by_size);
-    double proved = times[PROVED][ROUNDS / 2], independent = times[INDEPENDENT][ROUNDS / 2];
-    printf("  %-44s %10.1f %12.1f %8.2f%s\n", measure->name, proved, independent, proved / independent, equal ? "" : "  NOT EQUAL");
+    print_medians(measure->name, times, equal);
     both_free(&both);
+    return equal;
+}
+
+/* ---- the readers, on a log as long as can be */
+
+static double round_of_list(const struct log *log, int which, uint8_t *text, size_t *written)
+{
+    uint64_t start = clock_nanoseconds();
+    *written = which == PROVED ? nizhalepu_list(log->bytes, log->length, text, LOG_LIST_ROOM)
+                               : log_list(log->bytes, log->length, text, LOG_LIST_ROOM);
+    return (double)(clock_nanoseconds() - start);
+}
+
+static bool measure_list(void)
+{
+    static struct log log;
+    static uint8_t texts[BOXES][LOG_LIST_ROOM];
+    double times[BOXES][ROUNDS];
+    size_t written[BOXES];
+    struct chance chance = {1};
+    log_make(&log, &chance, LOG_CHANGES_MOST, true);
+    for (int n = 0; n < ROUNDS; n++)
+        for (int k = 0; k < BOXES; k++) {
+            int i = (n + k) % BOXES;
+            times[i][n] = round_of_list(&log, i, texts[i], &written[i]);
+        }
+    bool equal = written[PROVED] == written[INDEPENDENT] && memcmp(texts[PROVED], texts[INDEPENDENT], LOG_LIST_ROOM) == 0;
+    print_medians("listing a full log of 65,532 bytes", times, equal);
     return equal;
 }
 
@@ -177,5 +214,6 @@ int compare_speed(void)
     printf("nanoseconds per call, median of %d rounds of each, in turns; ratio below 1: the proved box is faster\n\n", ROUNDS);
     printf("  %-44s %10s %12s %8s\n", "", "proved", "independent", "ratio");
     for (size_t i = 0; i < sizeof measures / sizeof *measures; i++) equal &= measure(&measures[i]);
+    equal &= measure_list();
     return equal ? 0 : 1;
 }

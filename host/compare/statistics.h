@@ -6,6 +6,22 @@
 
 enum { REFUSALS = 7, ERRORS = 6, CODES = 9, EVENTS = 14, ADDRESSES = 217, STATES = 3 };
 
+/* what the readers of the log make of one */
+enum listed {
+    LISTED_NONE,
+    LISTED_CHANGES,
+    LISTED_GAP,          /* changes and a gap */
+    LISTED_MOST_CHANGES, /* 5,460 changes */
+    LISTED_FULL,         /* 5,460 changes and a gap */
+    LISTED_E050,
+    LISTED_E051,
+    LISTED_E052,
+    LISTED_E052_OVER, /* 5,461 records, of which the last is no gap */
+    LISTED_E056,
+    LISTED_NO_ROOM, /* for the text */
+    LISTED
+};
+
 struct statistics {
     /* counts */
     uint64_t calls; /* of the box; alterations are none */
@@ -25,6 +41,7 @@ struct statistics {
     size_t most_written; /* bytes of an emptying */
     uint64_t reads[ADDRESSES];
     uint64_t writes[ADDRESSES];
+    uint64_t listed[LISTED];
 
     /* what the counting keeps between calls */
     uint8_t characters[33]; /* of the command being collected */

@@ -17,3 +17,5 @@ pub mod Formats
 pub mod Replies
 pub mod Lent
 pub mod Leaves
+pub mod LentBytes
+pub mod Sent

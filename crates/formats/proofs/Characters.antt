@@ -7,9 +7,9 @@ use mathlib.Core.List.{List, [], _∷_, map}
 use lib.ListN.{length, length-map}
 use lib.Dec.{leb, ltb, eqb}
 use native.Mathlib.Omega.{arith}
-use borrow.Author.Tests.{lt-ltb, le-ltb, ltb-true, leb-true, eqb-true}
-use Rattle.formats.specs.Checks.{passed, _>>_, _orElse_, all, Ok}
-use Rattle.formats.specs.Digits.{digits, digitChar, digitValue, isDigit, shown, numberIn}
+use borrow.Author.Tests.{lt-ltb, le-ltb, ltb-true, leb-true, le-leb, eqb-true}
+use Rattle.formats.specs.Checks.{passed, _>>=_, _>>_, _orElse_, all, Ok}
+use Rattle.formats.specs.Digits.{digits, digitChar, digitValue, isDigit, shown, numberIn, h, hIn, d, dIn}
 use Rattle.formats.proofs.Checks.{if-case, both-true, below, ok-guard}
 use Rattle.formats.proofs.Digits.{isBelow, length-digits, number-below, digits-below, number-digits, digits-number}
 
@@ -96,3 +96,19 @@ unfolding numberIn
 read-fits base e cs =
     ok-guard (λ v. v < base ^ length cs) (all (isDigit base) cs) e _ λ t.
     rw length-map at (number-below base (map digitValue cs) (all-values base cs ∙ t))
+
+-- Two hex digits are a byte.
+pub h-byte : (cs : List ℕ) → Ok (λ v. v < 256) (hIn cs)
+unfolding hIn
+h-byte cs =
+    ok-guard (λ v. v < 256) (eqb (length cs) 2) 2 (numberIn 16 3 cs) λ e.
+    rw (eqb-true (length cs) 2 e) at (read-fits 16 3 cs)
+
+-- What the formats show is read back.
+pub h-back : (v : ℕ) → v < 256 → hIn (h v) ≡ passed v
+unfolding hIn _>>_ _orElse_
+h-back v lt = rw (length-shown 16 2 v) (shown-back 16 (omega arith) (omega arith) 3 2 v (omega arith))
+
+pub d-back : (v : ℕ) → v ≤ 255 → dIn (d v) ≡ passed v
+unfolding dIn _>>=_ _>>_ _orElse_
+d-back v le = rw (length-shown 10 3 v, shown-back 10 (omega arith) (omega arith) 3 3 v (omega arith), le-leb v 255 le)

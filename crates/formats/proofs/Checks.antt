@@ -8,6 +8,7 @@ use mathlib.Core.Logic.{_≢_}
 use mathlib.Core.Option.{none, some}
 use native.Mathlib.Omega.{arith}
 use native.Mathlib.Nat.{not-suc-le-zero}
+use lib.ListN.{take, drop, set}
 use lib.Dec.{eqb}
 use borrow.Author.Tests.{eqb-true, eqb-false}
 use Rattle.formats.specs.Checks.{if_then_else_, Res, refused, passed, _>>=_, _>>_, _orElse_, all, same, Ok}
@@ -43,6 +44,10 @@ both-false false b t e = absurd (false≢true t)
 pub and-false : (a : Bool) → (a && false) ≡ false
 and-false true = refl
 and-false false = refl
+
+pub or-true : (a : Bool) → (a || true) ≡ true
+or-true true = refl
+or-true false = refl
 
 pub and-swap : (a b : Bool) → (a && b) ≡ false → (b && a) ≡ false
 and-swap true true e = e
@@ -82,6 +87,40 @@ all-snoc f (y ∷ xs) x e g =
     let p = both-true (f y) (all f xs) e in
     rw (p .0) (all-snoc f xs x (p .1) g)
 
+-- over the first n elements, over the rest, and over a list with one element set
+pub all-take : {A : Type 0} (f : A → Bool) (n : ℕ) (xs : List A) → all f xs ≡ true → all f (take n xs) ≡ true
+all-take f zero xs e = refl
+all-take f (suc n) [] e = refl
+all-take f (suc n) (x ∷ xs) e =
+    let p = both-true (f x) (all f xs) e in
+    rw (p .0) (all-take f n xs (p .1))
+
+pub all-drop : {A : Type 0} (f : A → Bool) (n : ℕ) (xs : List A) → all f xs ≡ true → all f (drop n xs) ≡ true
+all-drop f zero xs e = e
+all-drop f (suc n) [] e = refl
+all-drop f (suc n) (x ∷ xs) e = all-drop f n xs (both-true (f x) (all f xs) e .1)
+
+pub all-set : {A : Type 0} (f : A → Bool) (xs : List A) (i : ℕ) (x : A) → all f xs ≡ true → f x ≡ true → all f (set xs i x) ≡ true
+all-set f [] i x e g = refl
+all-set f (y ∷ xs) zero x e g = rw g (both-true (f y) (all f xs) e .1)
+all-set f (y ∷ xs) (suc i) x e g =
+    let p = both-true (f y) (all f xs) e in
+    rw (p .0) (all-set f xs i x (p .1) g)
+
+-- over two lists
+pub all-append : {A : Type 0} (f : A → Bool) (xs ys : List A) → all f xs ≡ true → all f ys ≡ true → all f (xs ++ ys) ≡ true
+all-append f [] ys e g = g
+all-append f (x ∷ xs) ys e g =
+    let p = both-true (f x) (all f xs) e in
+    rw (p .0) (all-append f xs ys (p .1) g)
+
+-- and over the first of them alone
+pub all-front : {A : Type 0} (f : A → Bool) (xs ys : List A) → all f (xs ++ ys) ≡ true → all f xs ≡ true
+all-front f [] ys e = refl
+all-front f (x ∷ xs) ys e =
+    let p = both-true (f x) (all f (xs ++ ys)) e in
+    rw (p .0) (all-front f xs ys (p .1))
+
 -- what computed lists are judged by: the same numbers in the same order are one list
 pub same-equal : (xs ys : List ℕ) → same xs ys ≡ true → xs ≡ ys
 same-equal [] [] e = refl
@@ -115,3 +154,19 @@ module _ {B : Type 0} (P : B → Type 0) where
   unfolding _>>_ _orElse_
   ok-guard true e r k = k refl
   ok-guard false e r k = tt
+
+-- a check that refuses does not pass
+pub not-passed : {A : Type 0} {e : ℕ} {a : A} → refused e ≡ passed a → ⊥
+not-passed e = let z : _≡_ {A = ℕ} 0 1 = cc in omega arith
+
+-- where a chain passes, its first check does, and the rest
+pub both-passed : {A B : Type 0} (m : Res A) (r : Res B) {b : B} → (m >> r) ≡ passed b → ((a : A) × (m ≡ passed a)) × (r ≡ passed b)
+unfolding _>>_
+both-passed (refused e) r p = absurd (not-passed p)
+both-passed (passed a) r p = ((a, refl), p)
+
+-- and a rule that passes holds
+pub rule-holds : (t : Bool) (e : ℕ) {x : Unit {0}} → (t orElse e) ≡ passed x → t ≡ true
+unfolding _orElse_
+rule-holds true e p = refl
+rule-holds false e p = absurd (not-passed p)

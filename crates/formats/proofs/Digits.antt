@@ -13,7 +13,7 @@ use native.Mathlib.Nat.{pow-zero, mul-le-mul-right, mul-add-div-right, mul-add-m
 use borrow.Author.Tests.{lt-ltb, ltb-true}
 use Rattle.formats.specs.Checks.{all}
 use Rattle.formats.specs.Digits.{digits, numberAfter, number}
-use Rattle.formats.proofs.Checks.{both-true, all-snoc}
+use Rattle.formats.proofs.Checks.{both-true, all-snoc, all-take}
 
 pub length-digits : (base n v : ℕ) → length (digits base n v) ≡ n
 unfolding digits
@@ -29,14 +29,7 @@ number-snoc base v (x ∷ ds) d = number-snoc base (v * base + x) ds d
 abbrev pub isBelow : ℕ → ℕ → Bool
 isBelow base d = ltb d base
 
-all-take : (f : ℕ → Bool) (n : ℕ) (ds : List ℕ) → all f ds ≡ true → all f (take n ds) ≡ true
-all-take f zero ds e = refl
-all-take f (suc n) [] e = refl
-all-take f (suc n) (d ∷ ds) e =
-    let p = both-true (f d) (all f ds) e in
-    rw (p .0) (all-take f n ds (p .1))
-
-all-getD : (f : ℕ → Bool) (n : ℕ) (ds : List ℕ) → n < length ds → all f ds ≡ true → f (getD ds n 0) ≡ true
+pub all-getD : (f : ℕ → Bool) (n : ℕ) (ds : List ℕ) → n < length ds → all f ds ≡ true → f (getD ds n 0) ≡ true
 all-getD f n [] lt e = absurd (not-suc-le-zero lt)
 all-getD f zero (d ∷ ds) lt e = both-true (f d) (all f ds) e .0
 all-getD f (suc n) (d ∷ ds) lt e = all-getD f n ds (omega arith) (both-true (f d) (all f ds) e .1)

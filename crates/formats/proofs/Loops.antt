@@ -18,7 +18,7 @@ use Rattle.formats.proofs.Checks.{all-snoc}
 use Rattle.formats.proofs.Digits.{number-snoc, number-below}
 use Rattle.formats.proofs.Characters.{all-values}
 
-pub map-snoc : (f : ℕ → ℕ) (xs : List ℕ) (x : ℕ) → map f (xs ++ (x ∷ [])) ≡ map f xs ++ (f x ∷ [])
+pub map-snoc : {A B : Type 0} (f : A → B) (xs : List A) (x : A) → map f (xs ++ (x ∷ [])) ≡ map f xs ++ (f x ∷ [])
 map-snoc f [] x = refl
 map-snoc f (y ∷ xs) x = ap (λ l. f y ∷ l) (map-snoc f xs x)
 

@@ -1,13 +1,14 @@
 -- Laws of parts of a list: one that is written over, one that is lent and comes back, one that is copied, and the rest of it.
 -- Assumes nothing.
 use mathlib.Core.Path.{_≡_, ap, _∙_}
-use Prim.Native.Nat.{ℕ, _+_, _-_, _<_}
+use Prim.Native.Nat.{ℕ, _+_, _-_, _≤_, _<_}
 use native.Mathlib.Nat.{zero-add}
 use native.Mathlib.Numerals.{add-one}
 use native.Mathlib.Omega.{arith}
 use mathlib.Core.List.{List, [], _++_, append-nil}
-use lib.ListN.{length, take, drop, set, getD, length-drop}
+use lib.ListN.{length, take, drop, set, getD, length-take, length-drop}
 use lib.Seq.{sets, sets-eq, take-all, drop-length, drop-drop, paste-suc}
+use Rattle.formats.specs.Bytes.{part}
 use borrow.Rule.Slice.PartMut.{putMid}
 
 -- a list that is written over whole, from its first element to its last, is what was written
@@ -31,3 +32,7 @@ copied-more from to i hf ht =
 -- what a lent part `&xs[a..]` holds
 pub rest-of : (a : ℕ) (xs : List ℕ) → take (length xs - a) (drop a xs) ≡ drop a xs
 rest-of a xs = take-all (length xs - a) (drop a xs) (rw length-drop (omega arith))
+
+-- how long a part is
+pub length-part : (i n : ℕ) (xs : List ℕ) → i + n ≤ length xs → length (part i n xs) ≡ n
+length-part i n xs le = simp (length-take, length-drop) (omega arith)

@@ -1,4 +1,4 @@
--- Laws of a line's eight bytes: what is read lies in its ranges, and a line written is the line read.
+-- Laws of a line's eight bytes: what is read lies in its ranges, a line written is the line read, and the outputs that a line sets.
 -- Assumes nothing.
 use mathlib.Core.Path.{_≡_, refl}
 use Prim.Native.Nat.{ℕ, _^_, _≤_, _<_}
@@ -8,10 +8,12 @@ use lib.ListN.{length, getD}
 use lib.Dec.{leb, eqb}
 use native.Mathlib.Omega.{arith}
 use borrow.Author.Tests.{le-leb, leb-true}
+use Rattle.formats.specs.Checks.{all}
 use Rattle.formats.specs.Digits.{digits, numberAfter, number}
 use Rattle.formats.specs.Bytes.{field, bytes}
 use Rattle.formats.proofs.Checks.{if-case, both-true}
-use Rattle.formats.proofs.Bytes.{number-bytes}
+use Rattle.formats.proofs.Digits.{isBelow}
+use Rattle.formats.proofs.Bytes.{number-bytes, field-below}
 use Rattle.lines.specs.declared.Line.{Line}
 use Rattle.lines.specs.declared.Line.the-variants.{State, For, Next}
 use Rattle.lines.specs.Line.{noLine, isCounter, isState, isFor, isNext, readLine, bytesOf}
@@ -76,3 +78,28 @@ unfolding bytesOf digits
 length-bytes (State o t) = refl
 length-bytes (For c n) = refl
 length-bytes (Next c) = refl
+
+-- ---- the outputs that a line sets
+
+-- P holds of them, if the line is a State
+abbrev pub Sets : (ℕ → Type 0) → Line → Type 0
+Sets P (State outputs time) = P outputs
+Sets P (For counter count) = Unit {0}
+Sets P (Next counter) = Unit {0}
+
+-- a word is a number of four bytes
+abbrev pub Word : ℕ → Type 0
+Word w = w < 256 ^ 4
+
+pub fits-word : (l : Line) → Fits l → Sets Word l
+fits-word (State o t) f = f .0
+fits-word (For c n) f = tt
+fits-word (Next c) f = tt
+
+-- A line that is read in bytes sets a word, if it sets any.
+pub read-word : (bs : List ℕ) → all (isBelow 256) bs ≡ true → Sets Word (readLine bs)
+unfolding readLine
+read-word bs are =
+    if-case (Sets Word) (isState bs) (λ _. field-below 2 4 bs are) λ _.
+    if-case (Sets Word) (isFor bs) (λ _. tt) λ _.
+    if-case (Sets Word) (isNext bs) (λ _. tt) (λ _. omega arith)

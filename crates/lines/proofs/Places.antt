@@ -9,12 +9,15 @@ use lib.ListN.{length, take, drop, length-append}
 use lib.Dec.{ltb}
 use native.Mathlib.Omega.{arith}
 use borrow.Author.Tests.{ltb-true, ltb-false}
+use Rattle.formats.specs.Checks.{all}
 use Rattle.formats.specs.Bytes.{part}
+use Rattle.formats.proofs.Checks.{all-drop}
+use Rattle.formats.proofs.Digits.{isBelow}
 use Rattle.formats.proofs.Places.{same-place, other-place}
 use Rattle.lines.specs.declared.Line.{Line}
 use Rattle.lines.specs.Line.{readLine, bytesOf}
 use Rattle.lines.specs.Program.{lineAt, putLine, cleanedLines, firstNext, nextAfter}
-use Rattle.lines.proofs.Lines.{Ranged, read-ranged, Fits, bytes-back, length-bytes}
+use Rattle.lines.proofs.Lines.{Ranged, read-ranged, Fits, bytes-back, length-bytes, Sets, Word, read-word}
 
 -- ---- one line alone
 
@@ -35,6 +38,11 @@ eight (a ∷ b ∷ c ∷ d ∷ e ∷ f ∷ g ∷ i ∷ bs) = refl
 pub line-ranged : (p : List ℕ) (k : ℕ) → Ranged (lineAt p k)
 unfolding lineAt
 line-ranged p k = read-ranged (drop (8 * k) p)
+
+-- Every line of a program of bytes sets a word, if it sets any.
+pub line-word : (p : List ℕ) → all (isBelow 256) p ≡ true → (k : ℕ) → Sets Word (lineAt p k)
+unfolding lineAt
+line-word p are k = read-word (drop (8 * k) p) (all-drop (isBelow 256) (8 * k) p are)
 
 pub same-line : (p q : List ℕ) (k : ℕ) → part (8 * k) 8 p ≡ part (8 * k) 8 q → lineAt p k ≡ lineAt q k
 unfolding lineAt

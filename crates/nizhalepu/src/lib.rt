@@ -1,14 +1,16 @@
-// The record that the box's main loop keeps, and the five calls that alter it where it stands: a library for C.
-// Each calls the method of the box and stores the box that this returned. Definition: `call` of controller/specs/Calls.antt, as for the
+// The record that the box's main loop keeps, the five calls that alter it where it stands, and the text of an emptied log: a library for C.
+// Each of the five calls the method of the box and stores the box that this returned. Definition: `call` of controller/specs/Calls.antt, as for the
 // by-value calls; specs/InRecord.antt for what stays in the record and what is said beside it. The header is host/nizhalepu.h.
 ghost use mathlib.Core.Path.{_≡_};
 ghost use mathlib.Core.List.{[]};
+ghost use lib.ListN.{length};
 ghost use Rattle.controller.specs.Controller.{fresh};
 ghost use Rattle.controller.specs.Refusals.{powerOn, byte, tick, press, emptying};
 ghost use Rattle.controller.specs.Calls.{call};
 ghost use Rattle.controller.specs.Invariant.{Invariant};
 ghost use Rattle.deeds.specs.OnAreas.{areas};
 ghost use Rattle.nizhalepu.specs.InRecord.{inRecord};
+ghost use Rattle.reader.specs.Listing.{listingIn, Wrote};
 use calls::SwitchBox;
 
 // What a call says; the state stays in the record.
@@ -116,4 +118,12 @@ pub extern "C" fn nizhalepu_empty(state: &mut SwitchBox, log: &[u8], destination
         lines: answer.lines,
         written: answer.written,
     }
+}
+
+// The text of an emptied log, or of its refusal.
+#[no_mangle]
+pub extern "C" fn nizhalepu_list(log: &[u8], text: &mut [u8]) -> usize
+    ensures wrote { λ r. ⌜ Wrote 0 (listingIn (length (now (text .entry))) (now (log .entry))) (now (text .entry)) r (now (text .exit)) ⌝ }
+{
+    reader::text::list(log, text)
 }

@@ -4,3 +4,4 @@ pub mod Steps
 pub mod Turns
 pub mod Ending
 pub mod Examples
+pub mod Outputs

@@ -21,34 +21,78 @@ pub struct Output {
 
 // ---- input
 
-// Input is read once, as much as there is. 0 at its end; and where the read failed, which is told on standard error.
-pub fn read_some(input: &mut [u8]) -> usize
-    ensures counts { λ r. ⌜ Counts r (now (input .exit)) ⌝ }
+// What came: so many bytes, at the start of the buffer, and whether a read failed then.
+pub struct Got {
+    pub count: usize,
+    pub failed: bool,
+}
+
+// Input is read once, as much as there is. A read that failed is told on standard error.
+fn read_once(input: &mut [u8]) -> Got
+    ensures counts { λ r. ⌜ Counts (r .count) (now (input .exit)) ⌝ }
 {
     let got = libc::read(STDIN_FILENO, input);
     if got < 0 {
         os::fail(&[b'r', b'e', b'a', b'd']);
-        return 0;
+        return Got {
+            count: 0,
+            failed: true,
+        };
     }
-    io::count(got, input)
+    let count = io::count(got, input);
+    Got {
+        count,
+        failed: false,
+    }
 }
 
-// Input is read until the buffer is full or there is no more, which is also so after a read that failed.
-pub fn read_whole(buffer: &mut [u8]) -> usize
-    ensures counts { λ r. ⌜ Counts r (now (buffer .exit)) ⌝ }
+// The same for a program that takes a read that failed as the end of its input.
+pub fn read_some(input: &mut [u8]) -> usize
+    ensures counts { λ r. ⌜ Counts r (now (input .exit)) ⌝ }
+{
+    let got = read_once(input);
+    got.count
+}
+
+// Input is read until the buffer is full, there is no more, or a read fails.
+pub fn read_whole(buffer: &mut [u8]) -> Got
+    ensures counts { λ r. ⌜ Counts (r .count) (now (buffer .exit)) ⌝ }
 {
     let mut n: usize = 0;
     while n < buffer.len() {
-        let more = read_some(&mut buffer[n..]);
-        if more == 0 {
-            return n;
+        let more = read_once(&mut buffer[n..]);
+        if more.count == 0 {
+            return Got {
+                count: n,
+                failed: more.failed,
+            };
         }
-        n += more;
+        n += more.count;
     }
-    n
+    Got {
+        count: n,
+        failed: false,
+    }
 }
 
 // ---- output
+
+// Bytes are written, all of them. A write that failed is told on standard error.
+fn write_whole(bytes: &[u8]) -> bool {
+    if io::write_all(STDOUT_FILENO, bytes) {
+        return true;
+    }
+    os::fail(&[b'w', b'r', b'i', b't', b'e']);
+    false
+}
+
+// The first n bytes are written, all where there are fewer.
+pub fn write_first(bytes: &[u8], n: usize) -> bool {
+    if n <= bytes.len() {
+        return write_whole(&bytes[..n]);
+    }
+    write_whole(bytes)
+}
 
 impl Output {
     // Nothing is gathered.
@@ -77,7 +121,7 @@ impl Output {
         ensures empty { λ r. ⌜ (r .used ≡ 0) × (r .open ≡ true → self .open ≡ true) ⌝ }
     {
         if self.open {
-            let open = io::write_all(STDOUT_FILENO, bytes);
+            let open = write_whole(bytes);
             return Output { used: 0, open };
         }
         Output {

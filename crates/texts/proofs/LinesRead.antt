@@ -21,12 +21,12 @@ use Rattle.texts.specs.declared.Parsed.{Parsed}
 use Rattle.texts.specs.declared.Parsed.the-variants.{Is as IsLine, Error}
 use Rattle.texts.specs.ParsedLine.{parsedOf}
 use Rattle.texts.specs.Text.{counterIn}
-use Rattle.texts.proofs.Texts.{part-length}
+use Rattle.formats.proofs.Parts.{length-part}
 
 -- four decimal digits fit sixteen bits
 pub time-fits : (from v : ℕ) (cs : List ℕ) → from + 4 ≤ length cs → numberIn 10 3 (part from 4 cs) ≡ passed v → v % 65536 ≡ v
 time-fits from v cs le e =
-    let lt : v < 10 ^ 4 = rw (part-length from 4 cs le) at (number-fits 10 3 (part from 4 cs) v e) in
+    let lt : v < 10 ^ 4 = rw (length-part from 4 cs le) at (number-fits 10 3 (part from 4 cs) v e) in
     mod-eq-of-lt (omega arith)
 
 -- a counter that was read fits a byte

@@ -5,7 +5,7 @@ use Prim.Native.Nat.{ℕ, _+_, _^_, _≤_, _<_}
 use Prim.Native.Char.{code}
 use mathlib.Core.Bool.{Bool, true, false}
 use mathlib.Core.List.{List, [], _∷_, _++_, append-nil}
-use lib.ListN.{length, take, drop, getD, length-append, take-append-drop, length-take, length-drop}
+use lib.ListN.{length, take, drop, getD, length-append, take-append-drop}
 use lib.Seq.{drop-drop, drop-cons, drop-length, take-at, drop-at, take-all}
 use lib.Dec.{eqb, leb, ltb}
 use native.Mathlib.Omega.{arith}
@@ -14,6 +14,7 @@ use Rattle.formats.specs.Checks.{Res, refused, passed, _>>=_, _>>_, _orElse_, t
 use Rattle.formats.specs.Digits.{shown, numberIn}
 use Rattle.formats.proofs.Checks.{if-case, both-true, ok-bind, ok-guard}
 use Rattle.formats.proofs.Characters.{length-shown, shown-back, read-shows, read-fits}
+use Rattle.formats.proofs.Parts.{length-part}
 use Rattle.lines.specs.declared.Line.{Line}
 use Rattle.lines.specs.declared.Line.the-variants.{State, For, Next}
 use Rattle.formats.specs.Bytes.{part}
@@ -22,9 +23,6 @@ use Rattle.texts.specs.Text.{lineText, lineLength, counterIn, stateIn, f
 use Rattle.lines.proofs.Lines.{Fits}
 
 -- ---- parts of the characters
-
-pub part-length : (from n : ℕ) (cs : List ℕ) → from + n ≤ length cs → length (part from n cs) ≡ n
-part-length from n cs le = simp (length-take, length-drop) (omega arith)
 
 part-and-rest : (from n to : ℕ) (cs : List ℕ) → from + n ≡ to → drop from cs ≡ part from n cs ++ drop to cs
 part-and-rest from n to cs e =
@@ -43,7 +41,7 @@ module _ (base from n : ℕ) (cs : List ℕ) (pos : 0 < base) (le : base ≤ 16)
   part-read = go (numberIn base 3 (part from n cs)) (read-shows base pos le 3 (part from n cs)) (read-fits base 3 (part from n cs))
     where
       len : length (part from n cs) ≡ n
-      len = part-length from n cs inside
+      len = length-part from n cs inside
 
       go : (r : Res ℕ) → Ok (λ v. shown base (length (part from n cs)) v ≡ part from n cs) r → Ok (λ v. v < base ^ length (part from n cs)) r
           → Ok (Read base n (part from n cs)) r

@@ -234,8 +234,8 @@ fn made_of(op: u8, x: u8, high: u8, low: u8) -> Record {
 // The next record, whole or cut short by the end of the input.
 fn read_record() -> Record {
     let mut b = [0u8; 4];
-    let n = streams::read_whole(&mut b);
-    if n < 4 {
+    let got = streams::read_whole(&mut b);
+    if got.count < 4 {
         return Record {
             op: 0,
             x: 0,

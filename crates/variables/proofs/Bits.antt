@@ -1,16 +1,20 @@
--- A byte put into a word by shift and mask, and the status byte.
+-- A byte put into a word by shift and mask, the bytes of that word, and the status byte.
 -- Assumes nothing.
 use Prim.Native.Nat.{ℕ, zero, suc, _+_, _-_, _*_, _/_, _%_, _^_, _<_, _≤_}
 use native.Mathlib.Omega.{arith}
 use native.Mathlib.Nat.{mod-eq-of-lt, mod-lt, add-zero, mul-assoc}
 use mathlib.Core.Path.{_≡_, refl, sym, _∙_, ap, subst}
 use mathlib.Core.Bool.{Bool, true, false}
-use lib.ListN.{getD, set}
+use lib.ListN.{length, getD, set, length-set}
 use lib.Pow.{pow-pos, pow-add, pow-mono, ones-split, ones-lt, shr-lt, shl-exact, split, mod-mod-pow}
 use lib.Bits.{bitAnd, bitOr, and-block, or-block, and-mask, or-shifted, or-zero-r}
+use borrow.Author.Tests.{lt-ltb}
 use mir.Val.{boolByte}
+use Rattle.formats.specs.Checks.{all}
 use Rattle.formats.specs.Digits.{digits, numberAfter, number}
 use Rattle.formats.specs.Bytes.{bytes}
+use Rattle.formats.proofs.Checks.{all-set}
+use Rattle.formats.proofs.Digits.{isBelow, length-digits, number-below, digits-below, digits-number}
 use Rattle.variables.specs.Variables.{statusBits, outputByte, withOutputByte}
 
 -- w with its eight bits from bit s on replaced by b: what stands above them, b, and what stands below
@@ -92,6 +96,25 @@ module _ (w k s : ℕ) (low : 203 ≤ k) (high : k ≤ 206) (s-is : s ≡ 8 * (2
   unfolding withOutputByte
   masked-in b w-fits b-fits =
       masked w s b (24 - s) (omega arith) w-fits b-fits ∙ ap (λ (x : ℕ). withByte w x b) below ∙ byte-set w b (k - 203) (omega arith) w-fits
+
+-- ---- the bytes of a word with one of them set
+
+module _ (k x w : ℕ) (is : x < 256) where
+  set-bytes : all (isBelow 256) (set (bytes 4 w) (k - 203) x) ≡ true
+  set-bytes = all-set (isBelow 256) (bytes 4 w) (k - 203) x (digits-below 256 (omega arith) 4 w) (lt-ltb x 256 is)
+
+  set-four : length (set (bytes 4 w) (k - 203) x) ≡ 4
+  set-four = length-set (bytes 4 w) (k - 203) x ∙ length-digits 256 4 w
+
+  -- A write to 203-206 sets one byte of the word,
+  pub bytes-with : bytes 4 (withOutputByte k x w) ≡ set (bytes 4 w) (k - 203) x
+  unfolding withOutputByte
+  bytes-with = digits-number 256 (omega arith) 4 (set (bytes 4 w) (k - 203) x) set-four set-bytes
+
+  -- and what it gives is a word.
+  pub word-with : withOutputByte k x w < 256 ^ 4
+  unfolding withOutputByte
+  word-with = rw set-four at (number-below 256 (set (bytes 4 w) (k - 203) x) set-bytes)
 
 -- ---- the status byte
 

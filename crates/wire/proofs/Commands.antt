@@ -1,15 +1,16 @@
 -- Laws of whole commands, which the promises cite instead of the checks' text.
 -- Assumes nothing.
 use mathlib.Core.Path.{_≡_, refl, sym, ap, _∙_}
-use Prim.Native.Nat.{ℕ, _≤_}
+use Prim.Native.Nat.{ℕ, _≤_, _<_}
 use native.Mathlib.Omega.{arith}
 use mathlib.Core.Bool.{true, false}
 use mathlib.Core.List.{List, [], _∷_, _++_, append-nil}
 use lib.Dec.{eqb, leb}
-use borrow.Author.Tests.{le-leb, leb-true}
+use borrow.Author.Tests.{le-leb, lt-leb, leb-true}
 use Rattle.formats.specs.Checks.{passed, _>>=_, _>>_, _orElse_, text, Ok}
-use Rattle.formats.specs.Digits.{hIn, dIn}
+use Rattle.formats.specs.Digits.{h, hIn, d, dIn}
 use Rattle.formats.proofs.Checks.{if-case, ok-bind, ok-passed, ok-guard}
+use Rattle.formats.proofs.Characters.{h-back, d-back}
 use Rattle.lines.specs.declared.Line.{Line}
 use Rattle.texts.specs.Text.{lineText, lineIn}
 use Rattle.lines.proofs.Lines.{Fits}
@@ -17,14 +18,17 @@ use Rattle.texts.proofs.Texts.{Sent, accepted-shows, text-accepted}
 use Rattle.wire.specs.declared.Wire.{Wire}
 use Rattle.special.specs.declared.Mode.{Mode}
 use Rattle.special.specs.declared.Mode.the-variants.{Stop}
-use Rattle.wire.specs.declared.Data.the-variants.{WriteLine}
+use Rattle.wire.specs.declared.Data.{Data}
+use Rattle.wire.specs.declared.Data.the-variants.{WriteLine, WriteOutputs, WriteParameter, WriteSpecial}
 use Rattle.wire.specs.declared.Asked.{Asked}
 use Rattle.wire.specs.declared.Asked.the-variants.{Read, Write}
 use Rattle.wire.specs.Collecting.{sent}
-use Rattle.special.specs.Special.{forbidden, allowed, specialOf, inReach}
+use Rattle.special.specs.declared.Special.{Special}
+use Rattle.special.specs.Special.{codeOf, forbidden, allowed, specialOf, inReach}
+use Rattle.special.proofs.Codes.{code-high, code-back}
 use Rattle.wire.specs.Command.{isRead, rest, isWritable, isOpen, specialIn, dataIn, readCommand, writeCommand, commandIn, command}
 use Rattle.wire.specs.Naming.{Names}
-use Rattle.wire.specs.Sound.{SoundData, Sound}
+use Rattle.wire.specs.Sound.{Permitted, SoundData, Sound}
 use Rattle.wire.specs.Invariant.{WireInvariant}
 use Rattle.wire.proofs.Addresses.{outputs-from, found, address-inside}
 
@@ -99,3 +103,32 @@ module _ (w : Wire) (mode : Mode) (parameter : ℕ) (short : w .overlong ≡ fal
       → command w mode parameter ≡ passed (Write k (WriteLine l))
   unfolding _>>=_ _>>_ _orElse_
   write-accepted l f m inside e n = line-checks (lineText l) inside e n ∙ rw (m, text-accepted l f)
+
+-- Every write to an address that can be written is accepted when no program runs, where its data are in their format.
+pub data-accepted : (w : Wire) (mode : Mode) (parameter k : ℕ) (a written : List ℕ) (x : Data) → w .overlong ≡ false → mode ≡ Stop → k ≤ 216
+    → isWritable k ≡ true → sent w ≡ text "CW" ++ (a ++ written) → Names (w .nextwrite) k a → dataIn mode parameter k written ≡ passed x
+    → command w mode parameter ≡ passed (Write k x)
+unfolding command commandIn text writeCommand _>>=_ _>>_ _orElse_
+data-accepted w mode parameter k a written x short m inside can e n d =
+    let f = found 67 87 (w .nextwrite) k inside written n in
+    let open′ : isOpen mode k ≡ true = rw m in
+    rw (e, f .three, short, f .long, f .address, can, open′, f .behind, d)
+
+-- ---- data in their format
+
+module _ (mode : Mode) (parameter : ℕ) where
+  pub line-read : (k : ℕ) (l : Line) → k ≤ 200 → Fits l → dataIn mode parameter k (lineText l) ≡ passed (WriteLine l)
+  unfolding dataIn _>>=_
+  line-read k l le fits = rw (le-leb k 200 le, text-accepted l fits)
+
+  pub outputs-read : (k x : ℕ) → 203 ≤ k → k ≤ 206 → x < 256 → dataIn mode parameter k (h x) ≡ passed (WriteOutputs x)
+  unfolding dataIn _>>=_
+  outputs-read k x lo hi lt = rw (lt-leb k 200 (omega arith), le-leb k 206 hi, h-back x lt)
+
+  pub parameter-read : (v : ℕ) → v ≤ 255 → dataIn mode parameter 209 (d v) ≡ passed (WriteParameter v)
+  unfolding dataIn _>>=_
+  parameter-read v le = rw (d-back v le)
+
+  pub special-read : (s : Special) → Permitted mode parameter s → dataIn mode parameter 210 (d (codeOf s)) ≡ passed (WriteSpecial s)
+  unfolding dataIn specialIn _>>=_ _>>_ _orElse_
+  special-read s p = let hi = code-high s in rw (d-back (codeOf s) (omega arith), code-back s, p .may, p .reaches)

@@ -17,17 +17,17 @@ abbrev μ-loop : tie.MeasureT-loop
 loop-holds : tie.Need-loop-holds Inv-loop μ-loop
 loop-holds c = search needs
 
-sub-read-some : tie.Need-sub-read-some Inv-loop μ-loop
-sub-read-some c = search needs
+sub-read-once : tie.Need-sub-read-once Inv-loop μ-loop
+sub-read-once c = search needs
 
-part-read-some-start : tie.Need-part-read-some-start Inv-loop μ-loop
-part-read-some-start c = search needs
+part-read-once-start : tie.Need-part-read-once-start Inv-loop μ-loop
+part-read-once-start c = search needs
 
-part-read-some-end : tie.Need-part-read-some-end Inv-loop μ-loop
-part-read-some-end c = search needs
+part-read-once-end : tie.Need-part-read-once-end Inv-loop μ-loop
+part-read-once-end c = search needs
 
-read-some-requires : tie.Need-read-some-requires Inv-loop μ-loop
-read-some-requires c κs = search needs
+read-once-requires : tie.Need-read-once-requires Inv-loop μ-loop
+read-once-requires c κs = search needs
 
 same-length : tie.Need-same-length Inv-loop μ-loop
 same-length c = search needs
@@ -57,10 +57,10 @@ read-whole-spec =
     Inv-loop
     μ-loop
     loop-holds
-    sub-read-some
-    part-read-some-start
-    part-read-some-end
-    read-some-requires
+    sub-read-once
+    part-read-once-start
+    part-read-once-end
+    read-once-requires
     same-length
     returns
     add-n

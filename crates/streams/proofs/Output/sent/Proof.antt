@@ -5,8 +5,8 @@ use borrow.Author.Needs.{needs}
 use Rattle.streams.proofs.Output.sent.Statement.{statement}
 use Rattle.streams.proofs.Output.sent.Tie as tie
 
-write-all-requires : tie.Need-write-all-requires
-write-all-requires c κs = search needs
+write-whole-requires : tie.Need-write-whole-requires
+write-whole-requires c κs = search needs
 
 returns : tie.Need-returns
 returns c = search needs
@@ -15,4 +15,4 @@ returns-2 : tie.Need-returns-2
 returns-2 c = (refl, λ e. c .if1 .left ∙ e)
 
 pub sent-spec : {M : Type 1} → statement M
-sent-spec = tie.close (tie.spec write-all-requires returns returns-2)
+sent-spec = tie.close (tie.spec write-whole-requires returns returns-2)

@@ -1,0 +1,83 @@
+-- 02, item 1: "Reading what the box wrote gives the changes and the lost number of that history."
+-- Assumes nothing.
+use mathlib.Core.Path.{_≡_, sym, ap, _∙_}
+use Prim.Native.Nat.{ℕ}
+use mathlib.Core.Bool.{true}
+use mathlib.Core.List.{List, [], _∷_, _++_}
+use lib.ListN.{length, take, drop}
+use lib.Seq.{take-at}
+use lib.Dec.{eqb}
+use borrow.Author.Tests.{eqb-true}
+use Rattle.formats.specs.Checks.{passed}
+use Rattle.formats.proofs.Checks.{both-true}
+use Rattle.log.specs.Record.{isArea}
+use Rattle.log.specs.Log.{places, history}
+use Rattle.reader.specs.declared.Record.{Record}
+use Rattle.reader.specs.Reading.{reading}
+use Rattle.reader.specs.Listing.{linesOf, printed, listing}
+use Rattle.reader.specs.Produced.{isSize, Produced, recordsFor, Tells}
+use Rattle.reader.proofs.Accepts.{area-size, reads-history}
+use Rattle.controller.specs.Controller.{Areas}
+use Rattle.controller.specs.Refusals.{emptying}
+use Rattle.controller.proofs.Refusals.{accepted-call}
+use Rattle.demands.specs.Histories.{Made, powering, emptyingTo, unpowered, outcome, after, HandsOn, AllHandOn}
+use Rattle.demands.specs.Seen.{isTaken, seen}
+use Rattle.demands.specs.Told.{told}
+use Rattle.demands.specs.Changes.{changes}
+use Rattle.demands.specs.LentBytes.{lendBytes}
+use Rattle.demands.proofs.AsTold.{held-as-told}
+use Rattle.demands.proofs.LogTells as LogTells
+use Rattle.demands.proofs.LogTells.{emptying-tells}
+use Rattle.demands.proofs.Possible.{changes-possible}
+
+-- the log that an emptying is taken with has as many places as a reader's size
+emptied-size : (ms : List Made) (a : Areas) → isTaken (seen ms (emptyingTo a)) ≡ true → isSize (places (told ms .logLength)) ≡ true
+unfolding seen outcome
+emptied-size ms a ok =
+    let c = after unpowered ms .state in
+    let ch = accepted-call emptying c a (eqb-true _ _ ok) .0 in
+    let two = both-true (isArea (length (a .log))) (eqb (length (a .log)) (c .log .length)) (ch .checks .0 .log) in
+    let long : length (a .log) ≡ told ms .logLength = eqb-true (length (a .log)) (c .log .length) (two .1) ∙ held-as-told ms .logLength in
+    area-size (told ms .logLength) (rw long at (two .0))
+
+-- A power-on after any calls, and any calls after it; from it on the caller hands on both areas, and every lent area holds bytes.
+module _ (before : List Made) (lent : Areas) (ms : List Made) (hands : AllHandOn (after unpowered (before ++ (powering lent ∷ []))) ms) where
+  abbrev now : List Made
+  now = LogTells.now before lent ms hands
+
+  module _ (a : Areas) (hand : HandsOn (after unpowered now) (emptyingTo a)) (ok : isTaken (seen now (emptyingTo a)) ≡ true)
+      (bytes : lendBytes now ≡ true) where
+    abbrev pub given : List ℕ
+    given = take (seen now (emptyingTo a) .written) (seen now (emptyingTo a) .areas .out)
+
+    abbrev R : ℕ
+    R = places (told now .logLength)
+
+    given-is : given ≡ history R (changes now)
+    given-is =
+        let both = emptying-tells before lent ms hands a hand ok in
+        let log = history R (changes now) in
+        ap (take (seen now (emptyingTo a) .written)) (both .0)
+        ∙ take-at log (drop (length log) (a .out)) (seen now (emptyingTo a) .written) (sym (both .1))
+
+    -- The bytes that an emptying which is taken gives are such as the log rule can produce.
+    pub emptied-produced : Produced given
+    emptied-produced = record {
+      R = R;
+      size = emptied-size now a ok;
+      changes = changes now;
+      possible = changes-possible now bytes;
+      log = given-is;
+    }
+
+    -- They are read, and the records read tell of each change since power-on or the last emptying, in order, or of the first of them and of how
+    -- many were lost.
+    pub emptied-reads : (rs : List Record) × (reading given ≡ passed rs) × Tells (places (told now .logLength)) (changes now) rs
+    emptied-reads =
+        let read = reads-history R (changes now) (emptied-size now a ok) (changes-possible now bytes) in
+        (read .0, ap reading given-is ∙ read .1, read .2)
+
+    -- So their text is a line for each of those changes, and one for the gap.
+    pub emptied-lists : listing given ≡ linesOf (recordsFor (places (told now .logLength)) (changes now))
+    unfolding listing printed
+    emptied-lists = ap printed (emptied-reads .1) ∙ ap linesOf (emptied-reads .2 .records)
