@@ -12,8 +12,8 @@
  *   every other call as the call before left it: never an older copy, never one made up. The other calls
  *   ask nothing more of the record.
  * - Lend areas that do not overlap each other or the record, with at least as many bytes behind each
- *   pointer as its length says. A pointer is not null, even with length 0. A length may be wrong: that
- *   is refused.
+ *   pointer as its length says. A pointer is not null, even with length 0. A length may be wrong: the
+ *   five calls refuse that, and nizhalepu_list then writes nothing.
  * - Alter neither the program area nor the log between calls. Every call still does what document 01
  *   says if it happens, but what the box then runs and tells is what the areas hold.
  * - Make one call at a time on one record.
@@ -139,10 +139,10 @@ struct nizhalepu_said nizhalepu_empty(struct nizhalepu_record *record,
                                       const uint8_t *log, size_t log_length,
                                       uint8_t *destination, size_t destination_length);
 
-/* ---- the emptied log as text. It takes no record, and for a log bytes of any number and content.
+/* ---- the emptied log as text. It needs no record; the log may be any bytes, of any number.
  *
- * Each record is one line: tick, kind and cause in decimal, the value in eight capital hex digits, a space
- * between them and LF (10) behind. A log that no box can have written between two emptyings has the text
+ * Each record is one line: tick, kind and cause in decimal, the value in eight capital hex digits (in a gap
+ * FFFFFFFF means that many or more), a space between them and LF (10) behind. A log that no box can have written between two emptyings has the text
  * of its refusal alone, E, three digits and LF, the first that applies: E056 more than NIZHALEPU_LIST_MOST
  * bytes, E050 no whole number of records; then record by record E051 wrong mark, E052 impossible record.
  *

@@ -6,13 +6,16 @@
     loglist.py --model [CASE...]          the same on model/loglist.py
     loglist.py --streams                  names the cases of input and output as streams
     loglist.py --streams CASE COMMAND...  one of them, on a program that is run by these words
+    loglist.py --speed PROGRAM PROGRAM    the time of two programs on the longest log, in turns
 
 Status 0 if all pass. The texts stand here beside the logs, worked out by hand from the request; none was taken from a reader. Those
 of long logs are a line written by hand and repeated, its tick counted.
 """
 import os
+import statistics
 import subprocess
 import sys
+import time
 
 TOP = os.path.dirname(os.path.dirname(os.path.dirname(os.path.abspath(__file__))))
 
@@ -245,36 +248,43 @@ def equal(got, want, what):
         raise AssertionError(f"{what}: {got!r}, not {want!r}")
 
 
-def fails(command, what, **streams):
-    """The command ends with a status other than 0, be it by a signal; what it says on standard error."""
+def works(command):
+    """A log is listed: what fails in the cases below fails for want of input or output alone."""
+    done = subprocess.run(command, input=ONE, stdout=subprocess.PIPE, stderr=subprocess.DEVNULL, check=False, timeout=300)
+    equal((done.returncode, done.stdout), (0, ONE_LINE.encode()), "status and output of a log that can be read and written")
+
+
+def fails(command, what, word, **streams):
+    """The command ends with status 1, and the last line that it says on standard error has the word. What it does."""
+    works(command)
     done = subprocess.run(command, stderr=subprocess.PIPE, check=False, timeout=300, **streams)
-    if done.returncode == 0:
-        raise AssertionError(f"{what}: status 0")
+    equal(done.returncode, 1, f"{what}: status")
+    last = done.stderr.decode().rstrip("\n").split("\n")[-1]
+    if word not in last:
+        raise AssertionError(f"{what}: the last line on standard error is {last!r}")
     return done
 
 
 def unreadable_input(command):
     """A folder: a message, no output."""
-    done = fails(command, "a folder as input", stdin=os.open("/", os.O_RDONLY), stdout=subprocess.PIPE)
+    done = fails(command, "a folder as input", "read", stdin=os.open("/", os.O_RDONLY), stdout=subprocess.PIPE)
     equal(done.stdout, b"", "output")
-    if not done.stderr:
-        raise AssertionError("no message on standard error")
 
 
 def closed_output(command):
-    fails(command, "output closed", input=ONE, preexec_fn=lambda: os.close(1))
+    fails(command, "output closed", "write", input=ONE, preexec_fn=lambda: os.close(1))
 
 
 def full_output(command):
     with open("/dev/full", "wb") as full:
-        fails(command, "output full", input=LONGEST, stdout=full)
+        fails(command, "output full", "write", input=LONGEST, stdout=full)
 
 
 def reader_gone(command):
-    """A pipe that nobody reads any more; the signal that says so may end the program."""
+    """A pipe that nobody reads any more: a write that fails, and no signal."""
     reader, writer = os.pipe()
     os.close(reader)
-    fails(command, "the reader has gone", input=LONGEST, stdout=writer)
+    fails(command, "the reader has gone", "write", input=LONGEST, stdout=writer)
     os.close(writer)
 
 
@@ -309,6 +319,21 @@ def stream(name, command):
         sys.exit(f"{name}: {error}")
 
 
+# ---- time
+
+def seconds(program):
+    before = time.perf_counter()
+    subprocess.run([program], input=LONGEST, stdout=subprocess.DEVNULL, check=True, timeout=60)
+    return time.perf_counter() - before
+
+
+def speed(one, other):
+    """The median of 41 runs of each in turns, on the longest log."""
+    runs = [(seconds(one), seconds(other)) for _ in range(41)]
+    first, second = (statistics.median(column) for column in zip(*runs))
+    print(f"{1000 * first:.1f} ms and {1000 * second:.1f} ms: {first / second:.2f}")
+
+
 def main(words):
     if words == ["--list"]:
         print("\n".join(name for name, _, _ in CASES))
@@ -316,7 +341,9 @@ def main(words):
         print("\n".join(case.__name__ for case in STREAMS))
     elif len(words) > 2 and words[0] == "--streams":
         stream(words[1], words[2:])
-    elif words and words[0] != "--streams":
+    elif len(words) == 3 and words[0] == "--speed":
+        speed(words[1], words[2])
+    elif words and words[0] not in ("--streams", "--speed"):
         return run(of_model() if words[0] == "--model" else of_program(words[0]), words[1:]) != 0
     else:
         sys.exit(__doc__)

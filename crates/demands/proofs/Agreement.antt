@@ -28,7 +28,8 @@ use Rattle.wire.specs.Collecting.{collect, cleared}
 use Rattle.wire.specs.Invariant.{WireInvariant}
 use Rattle.wire.specs.Collecting as Collecting
 use Rattle.controller.specs.Controller.{Areas, withTicks, withWire, withSpecial}
-use Rattle.controller.specs.Deeds.{Deed, startAt, stop, special, write, writing, wroteTo, emptyCollection, answer, ticked, pressed, emptyLog, asked}
+use Rattle.controller.specs.Deeds.{Deed, startAt, stop, special, write, writing, wroteTo, emptyCollection}
+use Rattle.controller.specs.Deeds.{answer, ticked, pressed, emptyLog, asked}
 use Rattle.controller.specs.Deeds as Deeds
 use Rattle.controller.specs.Refusals.{Call, powerOn, byte, tick as tickCall, press, emptying, isButton}
 use Rattle.controller.specs.Effects.{finished, isPowerOn}

@@ -1,4 +1,5 @@
--- 02, item 1: the changes since power-on or the last emptying are such as the reader of the log takes for possible, whatever calls are made.
+-- 02, item 1: the changes since power-on or the last emptying are such as the reader of the log takes for possible, whatever calls are
+-- made, if what is lent is bytes.
 -- Assumes nothing.
 use mathlib.Core.Path.{_≡_, refl, sym, ap, subst, _∙_}
 use mathlib.Core.Logic.{_≢_}

@@ -1,4 +1,5 @@
--- A caller who hands on: it lends to each call the program area and the log as the calls before it left them.
+-- A caller who hands on: it lends to each call the program area and the log as the calls before it left them. And what calls can bring about:
+-- changes by such a caller, and a string that an emptying gives after the calls of any caller who alters neither area.
 use Prim.Native.Nat.{ℕ}
 use mathlib.Core.Path.{_≡_}
 use mathlib.Core.Bool.{true}
@@ -44,7 +45,7 @@ abbrev pub AllTaken : Held → List Made → Type 0
 AllTaken h [] = Unit {0}
 AllTaken h (m ∷ ms) = (isAccepted h m ≡ true) × AllTaken (next h m) ms
 
--- ---- what can be brought about so
+-- ---- what can be brought about
 
 -- Calls after a power-on with a log area of n bytes, all of them taken: the history then tells the changes cs.
 pub record MadeBy (n : ℕ) (cs : List Change) : Type 0 where

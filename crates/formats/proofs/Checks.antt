@@ -49,6 +49,10 @@ pub or-true : (a : Bool) → (a || true) ≡ true
 or-true true = refl
 or-true false = refl
 
+pub or-false : (a : Bool) → (a || false) ≡ a
+or-false true = refl
+or-false false = refl
+
 pub and-swap : (a b : Bool) → (a && b) ≡ false → (b && a) ≡ false
 and-swap true true e = e
 and-swap true false e = refl
@@ -158,6 +162,13 @@ module _ {B : Type 0} (P : B → Type 0) where
 -- a check that refuses does not pass
 pub not-passed : {A : Type 0} {e : ℕ} {a : A} → refused e ≡ passed a → ⊥
 not-passed e = let z : _≡_ {A = ℕ} 0 1 = cc in omega arith
+
+-- two refusals that are one have one number, and two values that passed are one
+pub refused-same : {A : Type 0} {i e : ℕ} → _≡_ {A = Res A} (refused i) (refused e) → i ≡ e
+refused-same p = cc
+
+pub passed-same : {A : Type 0} {a b : A} → passed a ≡ passed b → a ≡ b
+passed-same p = cc
 
 -- where a chain passes, its first check does, and the rest
 pub both-passed : {A B : Type 0} (m : Res A) (r : Res B) {b : B} → (m >> r) ≡ passed b → ((a : A) × (m ≡ passed a)) × (r ≡ passed b)
