@@ -98,12 +98,6 @@ module _ (w : Wire) (mode : Mode) (parameter : ℕ) (short : w .overlong ≡ fal
         record { line = l; writes = refl; sentAs = s })
         λ x p. p)
 
-  -- Every line whose values fit is accepted when no program runs: a box that answers E002 to all fails this.
-  pub write-accepted : (l : Line) → Fits l → mode ≡ Stop → k ≤ 200 → sent w ≡ text "CW" ++ (a ++ lineText l) → Names (w .nextwrite) k a
-      → command w mode parameter ≡ passed (Write k (WriteLine l))
-  unfolding _>>=_ _>>_ _orElse_
-  write-accepted l f m inside e n = line-checks (lineText l) inside e n ∙ rw (m, text-accepted l f)
-
 -- Every write to an address that can be written is accepted when no program runs, where its data are in their format.
 pub data-accepted : (w : Wire) (mode : Mode) (parameter k : ℕ) (a written : List ℕ) (x : Data) → w .overlong ≡ false → mode ≡ Stop → k ≤ 216
     → isWritable k ≡ true → sent w ≡ text "CW" ++ (a ++ written) → Names (w .nextwrite) k a → dataIn mode parameter k written ≡ passed x
@@ -132,3 +126,10 @@ module _ (mode : Mode) (parameter : ℕ) where
   pub special-read : (s : Special) → Permitted mode parameter s → dataIn mode parameter 210 (d (codeOf s)) ≡ passed (WriteSpecial s)
   unfolding dataIn specialIn _>>=_ _>>_ _orElse_
   special-read s p = let hi = code-high s in rw (d-back (codeOf s) (omega arith), code-back s, p .may, p .reaches)
+
+-- So every line whose values fit is accepted when no program runs: a box that answers E002 to all fails this.
+pub write-accepted : (w : Wire) (mode : Mode) (parameter : ℕ) → w .overlong ≡ false → (k : ℕ) (a : List ℕ) (l : Line) → Fits l → mode ≡ Stop → k ≤ 200
+    → sent w ≡ text "CW" ++ (a ++ lineText l) → Names (w .nextwrite) k a → command w mode parameter ≡ passed (Write k (WriteLine l))
+write-accepted w mode parameter short k a l f m inside e n =
+    data-accepted w mode parameter k a (lineText l) (WriteLine l) short m (omega arith) (rw (le-leb k 200 inside)) e n
+    (line-read mode parameter k l inside f)
