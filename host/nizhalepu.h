@@ -1,8 +1,9 @@
 /* nizhalepu.h: the proved controller of a 32-way switch box, for a main loop in C.
  *
  * Link with target/staticlib/libnizhalepu.a (x86-64), which `rt staticlib nizhalepu` proves and makes; all
- * that it needs of a C library is memcpy. The rules are those of document 01, and of document 02, item 1, for
- * the log as text; the Rattle source of these calls, with their contracts, is crates/nizhalepu/src/lib.rt.
+ * that it needs of a C library is memcpy. The rules are those of document 01 and of document 02, items 1 (the
+ * log as text) and 2 (a loop of none); the Rattle source of these calls, with their contracts, is
+ * crates/nizhalepu/src/lib.rt.
  *
  * Who owns what. The caller owns the record and every area. The library keeps no pointer, allocates
  * nothing, has no data of its own but constants and calls nothing back; each call ends.

@@ -15,6 +15,14 @@ struct box_said {
 
 size_t box_size(void);
 
+/* For the report of a comparison alone: the loops of none that were passed since power-on, and those of them whose Next is line 199. */
+struct box_nones {
+    uint32_t passed;
+    uint32_t past_199;
+};
+
+struct box_nones box_loops_of_none(const struct box *box);
+
 struct box_said box_power_on(struct box *box, uint8_t *program, size_t program_length, const uint8_t *saved, size_t saved_length,
                              const uint8_t *log, size_t log_length);
 struct box_said box_byte(struct box *box, uint8_t byte, uint8_t *program, size_t program_length, uint8_t *saved, size_t saved_length,

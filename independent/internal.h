@@ -9,8 +9,8 @@
 #include "box.h"
 
 /*
- * DAMAGE 0 is the box and the reader of its log; 1 to 10 give the box, 11 to 17 the reader one known error each, to see that a
- * comparison finds it.
+ * DAMAGE 0 is the box and the reader of its log; 1 to 10 and 18 to 22 give the box, 11 to 17 the reader one known error each, to see
+ * that a comparison finds it.
  */
 #ifndef DAMAGE
 #define DAMAGE 0
@@ -68,6 +68,7 @@ struct box {
     uint32_t ticks;
     uint32_t log_length;          /* as given at power-on, 0 after a refused one */
     uint32_t lost;                /* changes lost since emptying, at its cap "that many or more" */
+    struct box_nones nones;       /* since power-on; nothing goes by them */
     uint16_t kept;                /* changes that stand in the log, R-1 at most */
     uint16_t wait;                /* unpaused ticks until the next line falls due */
     uint16_t counter[COUNTERS];   /* 0 when free */

@@ -82,8 +82,8 @@ static void run_state(struct box *box, const struct line *state, uint8_t *log)
         box_stop_with(box, EVENT_END);
 }
 
-/* Is there a Next of this counter on any later line? The bytes of a Next are fixed, so compare all eight. */
-static bool next_stands_below(const uint8_t *program, unsigned line, unsigned counter)
+/* The first later line that is a Next of this counter, or LINES. The bytes of a Next are fixed, so compare all eight. */
+static unsigned next_below(const uint8_t *program, unsigned line, unsigned counter)
 {
     const uint8_t next[LINE_BYTES] = {'N', (uint8_t)(counter + 1)};
 
@@ -92,21 +92,55 @@ static bool next_stands_below(const uint8_t *program, unsigned line, unsigned co
 #endif
     for (line++; line < LINES; line++)
         if (memcmp(program + line * LINE_BYTES, next, LINE_BYTES) == 0)
-            return true;
-    return false;
+            return line;
+    return LINES;
 }
 
-/* Runs the For on the present line. Answers 0 or the event that stops the program. */
-static uint8_t run_for(struct box *box, const struct line *line, const uint8_t *program)
+/* A loop of none (02, item 2): no counter is taken, and the line after its Next falls due, whose number this answers. */
+static unsigned pass_over(struct box *box, unsigned next)
+{
+    box->nones.passed++;
+    box->nones.past_199 += next == LINES - 1;
+#if DAMAGE == 18
+    return next;
+#endif
+    return next + 1;
+}
+
+/*
+ * Runs the For on the present line; *due is the line after it, altered by a loop of none. Answers 0 or the event that
+ * stops the program.
+ */
+static uint8_t run_for(struct box *box, const struct line *line, const uint8_t *program, unsigned *due)
 {
     const unsigned counter = line->counter;
+    unsigned next;
 
+#if DAMAGE == 20
+    if (box->counter[counter] != 0 && line->number != 0)
+#else
     if (box->counter[counter] != 0)
+#endif
         return EVENT_COUNTER_BUSY;
-    if (!next_stands_below(program, box->line, counter))
+    next = next_below(program, box->line, counter);
+    if (next == LINES)
         return EVENT_NO_NEXT;
-    /* Count 0000 counts as 0001; 213-216 then show 1, since a busy counter is never 0. */
-    box->counter[counter] = line->number == 0 ? 1 : line->number;
+#if DAMAGE == 22
+    if (line->number == 0) {
+        box->counter[counter] = 1;
+        box->after_for[counter] = (uint8_t)(box->line + 1);
+        return 0;
+    }
+#endif
+    if (line->number == 0) {
+        *due = pass_over(box, next);
+#if DAMAGE == 19
+        box->counter[counter] = 1;
+        box->after_for[counter] = (uint8_t)(box->line + 1);
+#endif
+        return 0;
+    }
+    box->counter[counter] = line->number;
     /* A later line exists here, so this is 199 at most, whatever the caller makes of the area later. */
     box->after_for[counter] = (uint8_t)(box->line + 1);
     return 0;
@@ -149,7 +183,7 @@ static uint8_t run_next(struct box *box, const struct line *line, const uint8_t 
 /*
  * Runs the lines that fall due in this call, from line `due` on, until a State is held or the program stops.
  * Answers the number of For and Next lines run, those that end in 006, 007 or 008 among them, and so too a Next
- * that goes on past 199.
+ * and a loop of none that go on past 199.
  */
 uint16_t box_run(struct box *box, unsigned due, const uint8_t *program, uint8_t *log)
 {
@@ -160,10 +194,13 @@ uint16_t box_run(struct box *box, unsigned due, const uint8_t *program, uint8_t 
         uint8_t event;
 
         /*
-         * Going on past 199: the line stays 199, which it is already. This comes before the bound of 400:
-         * past 199 no line is due, so a 400th Next on line 199 that goes on gives 009 and not 013.
+         * Going on past 199: the line is 199, also where a loop of none further up passed its Next there. This comes
+         * before the bound of 400: past 199 no line is due, so a 400th Next on line 199 that goes on gives 009 and not 013.
          */
         if (due == LINES) {
+#if DAMAGE != 21
+            box->line = LINES - 1;
+#endif
             box_stop_with(box, EVENT_PAST_LAST);
             return run;
         }
@@ -180,7 +217,7 @@ uint16_t box_run(struct box *box, unsigned due, const uint8_t *program, uint8_t 
         }
         run++;
         due++;
-        event = line.kind == LINE_FOR ? run_for(box, &line, program) : run_next(box, &line, program, &due);
+        event = line.kind == LINE_FOR ? run_for(box, &line, program, &due) : run_next(box, &line, program, &due);
         if (event != 0) {
             box_stop_with(box, event);
             return run;

@@ -1,4 +1,4 @@
-"""The switch box as read from document 01: a second reading, independent of the proved code.
+"""The switch box as read from documents 01 and 02: a third reading, independent of the proved code.
 
 The expected output of the program `corners` is made from this model.  It covers what the
 standard input of `corners` can reach: wire bytes, ticks and the two buttons, after a power-on
@@ -140,12 +140,17 @@ class Box:
                 self.go_on()
 
     def run_for(self, counter, count):
-        # Running: For with a busy counter is 006, without a later Next 007; 0000 is 0001.
+        # Running: For with a busy counter is 006, without a later Next 007.
+        later = self.program[self.line + 1:200]
         if self.counters[counter - 1]:
             return self.stop_with(6)
-        if ("N", counter) not in self.program[self.line + 1:200]:
+        if ("N", counter) not in later:
             return self.stop_with(7)
-        self.counters[counter - 1], self.for_lines[counter - 1] = count or 1, self.line
+        if count == 0:
+            # 02, item 2: 0000 takes no counter and goes on from that Next.
+            self.line += 1 + later.index(("N", counter))
+        else:
+            self.counters[counter - 1], self.for_lines[counter - 1] = count, self.line
 
     def run_next(self, counter):
         # Running: Next with a free counter is 008; above zero back to the line after For.

@@ -1,4 +1,4 @@
-"""The scenarios of the program `corners`, with the replies document 01 gives.
+"""The scenarios of the program `corners`, with the replies that documents 01 and 02 give.
 
 Use: python3 corners.py INPUT OUTPUT.  The first file gets the bytes of the standard input, the second the expected output.
 """
@@ -7,6 +7,7 @@ import sys
 
 import wire_corners
 import running_corners
+import none_corners
 from script import SCENARIOS, answered, say, sent
 
 

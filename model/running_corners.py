@@ -58,12 +58,12 @@ def single_line():
 @scenario
 def load_and_save():
     # 007 loads and 008 saves lines 000-199; line 200, outputs, line number and event stay.
-    known("F10000", "S00000000AA0000", "N1")
+    known("F10000", "N1", "S00000000AA0000")
     say("CW199N4^CW200N3^CW20677^CW210008^", "OK OK OK OK")
     program("N2", "N2", "N2")
     say("CW199N2^CW200N2^CR000^CW210007^", "OK OK N2 OK")
-    say("CR000^CR001^CR002^CR003^CR199^CR200^CR206^", "F10000 S00000000AA0000 N1 %s N4 N2 77" % END)
-    say("!CR211^CW210007^CW210008^CR201^CR211^CR206^CR212^", "001 OK OK 80 001 AA 011")
+    say("CR000^CR001^CR002^CR003^CR199^CR200^CR206^", "F10000 N1 S00000000AA0000 %s N4 N2 77" % END)
+    say("!CR211^CW210007^CW210008^CR201^CR211^CR206^CR212^", "002 OK OK 80 002 AA 011")
     program(END, END, END)
     say("CW199%s^CW210008^CW000N1^CW210007^CR000^CR199^" % END, "OK OK OK OK %s %s" % (END, END))
 
@@ -214,10 +214,7 @@ def four_counters():
 
 @scenario
 def counts():
-    # "Count 0000 counts as 0001"; the line reads back 0000.
-    known("F10000", "S00000000010001", "N1", END)
-    say("CR000^!CR213^#CR206^", "F10000 0001 00")
-    stopped_by(11, 3)
+    # The least count that runs its body.
     known("F30001", "S00000000010001", "N3", END)
     say("!CR215^#", "0001")
     stopped_by(11, 3)

@@ -183,6 +183,12 @@ def altered_program():
     say("CR212", "011")
     press(1, lines=1)
     say("CR212", "007")
+    # 02, item 2: a For with count 0000 passes over what only looks like a Next.
+    for line in ("4E010000 00000001", "4E010001 00000000", "4E000000 00000000", "4E050000 00000000", "6E010000 00000000"):
+        fresh("46010000 00000000", line, "53000000 00010001", "4E010000 00000000", "53000000 00020001")
+        press(1, lines=1)
+        say("CR211", "004")
+        say("CR206", "02")
 
 
 @scenario
@@ -219,7 +225,7 @@ def load_and_save():
 @scenario
 def lines_run():
     # "One call runs at most 400 For and Next lines. ... The number run in a call is returned with it."
-    for count, lines, event in (("0000", 2, "011"), ("0001", 2, "011"), ("018E", 399, "011"), ("018F", 400, "011"),
+    for count, lines, event in (("0000", 1, "011"), ("0001", 2, "011"), ("018E", 399, "011"), ("018F", 400, "011"),
                                 ("0190", 400, "013"), ("270F", 400, "013")):
         fresh("4601" + count + "00000000", "4E010000 00000000")
         press(1, lines=lines)
@@ -236,6 +242,18 @@ def lines_run():
         say("CW210006", "OK")
         press(1, lines=number)
         say("CR212", event)
+    # 02, item 2: with count 0000 "The For still counts as run", in 006 and 007 too, and the Next that it passes over does not.
+    none, after = "46010000 00000000", BLINK[3]
+    for lines, number, event in (((none, after) * 5, 5, "011"), ((none, BLINK[1], none, after), 1, "011"),
+                                 ((BLINK[0], none, after), 2, "006"), ((none,), 1, "007"), ((none, after, after), 2, "008")):
+        fresh(*lines)
+        say("CW210006", "OK")
+        press(1, lines=number)
+        say("CR212", event)
+    fresh(none, after, at=198)
+    say("CW209198", "OK")
+    say("CW210005", "OK", lines=1)
+    say("CR212", "009")
     # "Going on past 199: event 009", here by a For and Next that end there.
     fresh("46010001 00000000", "4E010000 00000000", at=198)
     say("CW209198", "OK")

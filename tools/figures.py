@@ -164,7 +164,9 @@ def outside():
 
 
 if __name__ == '__main__':
-    if '--since' in sys.argv[1:]:
+    if '--help' in sys.argv[1:]:
+        print(__doc__)
+    elif '--since' in sys.argv[1:]:
         print(since(sys.argv[sys.argv.index('--since') + 1]), end='')
     else:
         main()

@@ -54,11 +54,20 @@ static void add_soup(struct program *program, struct chance *chance)
     }
 }
 
+/* A loop of none of this counter, perhaps with lines of any kind in it: those of other loops among them. */
+static void add_none(struct program *program, struct chance *chance, unsigned counter, unsigned inside)
+{
+    add_for(program, counter, 0);
+    while (inside-- > 0) line_any(more(program), chance);
+    add_next(program, counter);
+}
+
 /* Loops without a State line, of about 400 lines in one call. */
 static void add_long_loops(struct program *program, struct chance *chance)
 {
     if (chance_one_in(chance, 2)) add_state(program, chance, chance_between(chance, 1, 2));
     unsigned a = chance_between(chance, 1, 4), b = a % 4 + 1;
+    if (chance_one_in(chance, 8)) add_for(program, b, 1); /* what follows then finds its counter busy, or no Next of it stands below */
     if (chance_one_in(chance, 2)) {
         add_for(program, a, chance_between(chance, 396, 401));
         add_next(program, a);
@@ -70,9 +79,9 @@ static void add_long_loops(struct program *program, struct chance *chance)
         add_next(program, b);
         add_next(program, a);
     }
-    switch (chance_below(chance, 6)) {
+    switch (chance_below(chance, 7)) {
     case 0:
-        add_for(program, b, 2); /* perhaps with no Next below */
+        add_for(program, b, chance_one_in(chance, 2) ? 2 : 0); /* perhaps with no Next below */
         break;
     case 1:
         add_next(program, a); /* free by now */
@@ -84,8 +93,54 @@ static void add_long_loops(struct program *program, struct chance *chance)
         break;
     case 3: /* nothing: perhaps the end of the program area */
         break;
+    case 4:
+        add_none(program, chance, b, chance_below(chance, 2));
+        break;
     default:
         add_state(program, chance, chance_below(chance, 3));
+        break;
+    }
+}
+
+/* Loops of none in a loop, and nothing else: about 400 lines in one call. */
+static void add_many_nones(struct program *program, struct chance *chance, unsigned counter)
+{
+    unsigned inside = chance_between(chance, 1, 5);
+    add_for(program, counter, 400 / (inside + 1) + chance_below(chance, 2));
+    for (unsigned n = 0; n < inside; n++) add_none(program, chance, counter % 4 + 1, 0);
+    add_next(program, counter);
+}
+
+/* Loops of none: in a row, in a loop (perhaps of their own counter, which is busy then), across another loop, without a Next. */
+static void add_nones(struct program *program, struct chance *chance)
+{
+    unsigned a = chance_between(chance, 1, 4), b = a % 4 + 1;
+    if (chance_one_in(chance, 2)) add_state(program, chance, chance_between(chance, 1, 2));
+    switch (chance_below(chance, 6)) {
+    case 0:
+        add_many_nones(program, chance, a);
+        break;
+    case 1:
+        add_for(program, a, chance_between(chance, 1, 4));
+        if (chance_one_in(chance, 2)) add_state(program, chance, 1);
+        add_none(program, chance, chance_one_in(chance, 3) ? a : b, chance_below(chance, 3));
+        add_next(program, a);
+        break;
+    case 2:
+        add_for(program, b, chance_between(chance, 1, 4));
+        add_for(program, a, 0);
+        add_next(program, b);
+        add_next(program, a);
+        if (chance_one_in(chance, 2)) break; /* the other loop stays open */
+        add_state(program, chance, 1);
+        add_next(program, b);
+        break;
+    case 3:
+        add_for(program, a, 0);
+        break;
+    default:
+        for (unsigned n = chance_between(chance, 1, 5); n > 0; n--)
+            add_none(program, chance, chance_between(chance, 1, 4), chance_below(chance, 3));
         break;
     }
 }
@@ -203,7 +258,10 @@ static void choose(struct program *program, struct chance *chance)
 {
     unsigned luck = chance_below(chance, 200);
     program->count = 0;
-    if (luck < 60)
+    bool nones = luck >= 40 && luck < 80; /* often with a Next as the last line */
+    if (nones)
+        add_nones(program, chance);
+    else if (luck < 40)
         add_nested(program, chance, 1);
     else if (luck < 130)
         add_soup(program, chance);
@@ -213,7 +271,8 @@ static void choose(struct program *program, struct chance *chance)
         while (program->count < 200) line_any(more(program), chance);
     else
         add_far(program, chance);
-    if (program->count < 200 && !chance_one_in(chance, 3)) add_state(program, chance, chance_below(chance, 3));
+    if (program->count < 200 && !chance_one_in(chance, nones ? 2 : 3))
+        add_state(program, chance, chance_below(chance, 3));
 }
 
 void run_recipe(struct maker *maker)
@@ -228,12 +287,14 @@ void run_recipe(struct maker *maker)
     }
     unsigned most = 200 - program.count, at = 0;
     if (chance_one_in(chance, 4)) at = chance_below(chance, most + 1);
-    if (chance_one_in(chance, 5)) at = most; /* the program ends on line 199 */
+    bool next_last = program.line[program.count - 1][0] == 0x4E;
+    if (chance_one_in(chance, next_last ? 2 : 5)) at = most; /* the program ends on line 199 */
     if (!chance_one_in(chance, 4)) say(maker, UNDAMAGED, "CW210001");
     maker->near = at < LAST ? at : LAST;
     deliver(maker, &program, at);
     if (chance_one_in(chance, 8)) at += chance_below(chance, program.count); /* a start inside */
     start(maker, at);
+    if (next_last || chance_one_in(chance, 3)) say(maker, UNDAMAGED, "CR211");
     if (slow) make_ticks(maker, chance_one_in(chance, 4) ? 10100 : 1300);
     run_on(maker);
 }

@@ -85,6 +85,18 @@ static bool print_specials(const struct statistics *statistics)
     return met;
 }
 
+static bool print_nones(const struct statistics *statistics)
+{
+    bool met = class("loops of none passed", statistics->nones);
+    met &= class("loops of none passed, their Next on line 199", statistics->nones_past_199);
+    met &= class("loops of none passed in calls with a run of 400", statistics->nones_of_400);
+    class("most loops of none passed in a call", statistics->most_nones);
+    met &= class("For with count 0000 that ended in 006", statistics->none_events[6]);
+    met &= class("For with count 0000 that ended in 007", statistics->none_events[7]);
+    met &= class("For with count 0000 that was the 401st: 013", statistics->none_events[13]);
+    return met;
+}
+
 static bool print_running(const struct statistics *statistics)
 {
     static const char *const events[EVENTS] = {
@@ -101,6 +113,7 @@ static bool print_running(const struct statistics *statistics)
     met &= class("ticks taken when running", statistics->ticks[2]);
     class("longest run of For and Next lines in a call", statistics->most_lines);
     met &= class("calls with a run of 400", statistics->full_runs);
+    met &= print_nones(statistics);
     met &= class("output changes", statistics->changes);
     met &= class("gaps begun in the log", statistics->gaps);
     class("most changes lost in one gap", statistics->most_lost);

@@ -34,19 +34,24 @@ static void program_changing(uint8_t *program)
     line_next(program + 24, 1);
 }
 
-static void program_far_states(uint8_t *program)
+static void program_over_states(uint8_t *program)
+{
+    prepare_dearest(program, 'S');
+}
+
+static void program_over_fors(uint8_t *program)
+{
+    prepare_dearest(program, 'F');
+}
+
+static void program_over_nexts(uint8_t *program)
+{
+    prepare_dearest(program, 'N');
+}
+
+static void program_far(uint8_t *program)
 {
     prepare_far(program, 'S');
-}
-
-static void program_far_fors(uint8_t *program)
-{
-    prepare_far(program, 'F');
-}
-
-static void program_far_nexts(uint8_t *program)
-{
-    prepare_far(program, 'N');
 }
 
 /* ---- what goes before a round, untimed */
@@ -127,9 +132,10 @@ static const struct measure measures[] = {
     {"wire byte, whole commands of every sort", BYTE, COMMANDS *(sizeof commands - 1), NULL, nothing},
     {"tick, stopped", TICK, TICKS, NULL, nothing},
     {"tick, running and waiting", TICK, TICKS, program_waiting, start_again},
-    {"dearest tick, searching over State lines", TICK, 1, program_far_states, start_again},
-    {"dearest tick, searching over For lines", TICK, 1, program_far_fors, start_again},
-    {"dearest tick, searching over Next lines", TICK, 1, program_far_nexts, start_again},
+    {"dearest tick, searching over State lines", TICK, 1, program_over_states, start_again},
+    {"dearest tick, searching over For lines", TICK, 1, program_over_fors, start_again},
+    {"dearest tick, searching over Next lines", TICK, 1, program_over_nexts, start_again},
+    {"the same over State lines, no loop of none", TICK, 1, program_far, start_again},
     {"emptying a full log of 65,536 bytes", EMPTY, 1, program_changing, fill_log},
 };
 

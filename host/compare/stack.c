@@ -153,6 +153,7 @@ static const struct instance instances[] = {
     {"byte: 13 of 008, save", {"CW210008"}, false},
     {"tick: stopped", {"CW210001"}, true},
     {"tick: that runs 400 lines", {"CW210003"}, true},
+    {"tick: that passes a loop of none", {"CW001F10000", "CW210003"}, true},
     {"tick: that makes a change in the log", {"CW001S00000000070001", "CW210003"}, true},
 };
 

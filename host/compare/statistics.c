@@ -1,4 +1,5 @@
 #include "statistics.h"
+#include "line.h"
 
 #include <ctype.h>
 #include <string.h>
@@ -81,15 +82,37 @@ static void power_went_on(struct statistics *statistics)
     statistics->count = 0;
     statistics->last_read = 0;
     statistics->last_write = 0;
+    statistics->nones_before = (struct box_nones){0, 0};
     memset(&statistics->before, 0, sizeof statistics->before);
 }
 
-/* What the record shows to have happened. An event that comes while the same one is unread is not seen. */
+/* An event that comes while the same one is unread is not seen. */
+static bool raised(const struct nizhalepu_record *before, const struct nizhalepu_record *now, unsigned event)
+{
+    return now->panel.unread && now->panel.event == event && !(before->panel.unread && before->panel.event == event);
+}
+
+/* The loops of none that this call passed, and a For with count 0000 on which the program stopped. */
+static void count_nones(struct statistics *statistics, const struct both *both)
+{
+    const struct nizhalepu_record *before = &statistics->before, *now = both->record;
+    const uint8_t *line = both->area[PROVED][PROGRAM] + (size_t)now->run.line * LINE_BYTES;
+    struct box_nones nones = box_loops_of_none(both->box);
+    uint32_t passed = nones.passed - statistics->nones_before.passed;
+    statistics->nones += passed;
+    statistics->nones_past_199 += nones.past_199 - statistics->nones_before.past_199;
+    if (both->said[PROVED].lines == 400) statistics->nones_of_400 += passed;
+    if (passed > statistics->most_nones) statistics->most_nones = passed;
+    statistics->nones_before = nones;
+    if (line[0] != 0x46 || line[2] != 0 || line[3] != 0) return;
+    for (unsigned event = 0; event < EVENTS; event++) statistics->none_events[event] += raised(before, now, event);
+}
+
+/* What the record shows to have happened. */
 static void count_record(struct statistics *statistics, const struct nizhalepu_record *now)
 {
     const struct nizhalepu_record *before = &statistics->before;
-    bool raised = now->panel.unread && !(before->panel.unread && before->panel.event == now->panel.event);
-    if (raised && now->panel.event < EVENTS) statistics->events[now->panel.event]++;
+    for (unsigned event = 0; event < EVENTS; event++) statistics->events[event] += raised(before, now, event);
     if (now->run.outputs != before->run.outputs) statistics->changes++;
     if (now->log.lost > 0 && before->log.lost == 0) statistics->gaps++;
     if (now->log.lost > statistics->most_lost) statistics->most_lost = now->log.lost;
@@ -113,5 +136,6 @@ void statistics_count(struct statistics *statistics, const struct step *step, co
     if (step->kind == EMPTY && said->written > statistics->most_written) statistics->most_written = said->written;
     if (said->lines > statistics->most_lines) statistics->most_lines = said->lines;
     statistics->full_runs += said->lines == 400;
+    count_nones(statistics, both);
     count_record(statistics, both->record);
 }

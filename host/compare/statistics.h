@@ -1,4 +1,4 @@
-/* statistics.h: what a run has met, as the proved box shows it. */
+/* statistics.h: what a run has met, as the proved box shows it; loops of none, which it does not show, as the independent one does. */
 #ifndef COMPARE_STATISTICS_H
 #define COMPARE_STATISTICS_H
 
@@ -36,6 +36,11 @@ struct statistics {
     uint64_t changes;
     uint64_t gaps;
     uint64_t full_runs; /* calls that ran 400 For and Next lines */
+    uint64_t nones;         /* loops of none passed */
+    uint64_t nones_past_199; /* those whose Next is line 199 */
+    uint64_t nones_of_400;  /* those in calls that ran 400 lines */
+    uint64_t most_nones;    /* in one call */
+    uint64_t none_events[EVENTS]; /* seen where the line shown is a For with count 0000: 006, 007 and 013 stopped the program on it */
     uint32_t most_lost;
     unsigned most_lines;
     size_t most_written; /* bytes of an emptying */
@@ -47,6 +52,7 @@ struct statistics {
     uint8_t characters[33]; /* of the command being collected */
     unsigned count;
     unsigned last_read, last_write;
+    struct box_nones nones_before;
     struct nizhalepu_record before;
 };
 

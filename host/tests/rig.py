@@ -142,8 +142,14 @@ def points_of_running():
     send("CR212", "013")
     send("CR211", "001")  # the Next that was due and did not run
     send("CW000F10000", "OK")
-    send("CW210003", "OK", 2)  # counts as 0001: For and one Next
+    send("CW210003", "OK", 1)  # a loop of none: the For alone is run, and its Next is passed over
     send("CR212", "011")
+    send("CR211", "002")
+    send("CW199N1", "OK")
+    send("CW001S00000000000000", "OK")
+    send("CW210003", "OK", 1)  # its Next is line 199: event 009 there
+    send("CR212", "009")
+    send("CR211", "199")
 
 
 def points_of_the_log():

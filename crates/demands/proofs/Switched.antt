@@ -1,7 +1,7 @@
 -- What a caller who hands on can have the box do, in which no program runs: store an end mark, set the parameter, and set the outputs in three ways.
 -- Assumes nothing.
 use mathlib.Core.Path.{_≡_, refl, ap, ap₂, subst, _∙_}
-use Prim.Native.Nat.{ℕ, zero, suc, _^_, _≤_, _<_}
+use Prim.Native.Nat.{ℕ, _^_, _≤_, _<_}
 use native.Mathlib.Omega.{arith}
 use mathlib.Core.Bool.{true, false}
 use mathlib.Core.List.{List, _++_, append-nil}
@@ -20,7 +20,9 @@ use Rattle.lines.proofs.Lines.{length-bytes}
 use Rattle.lines.proofs.Places.{put-same}
 use Rattle.texts.specs.Text.{lineText}
 use Rattle.running.specs.declared.Run.{Run}
-use Rattle.running.specs.Running.{start, runDue, step, runLine, stopped, begun, withOutputs, most}
+use Rattle.running.specs.declared.Ran.{Ran}
+use Rattle.running.specs.Running.{start, runDue, stopped, begun, withOutputs, most}
+use Rattle.running.proofs.Steps.{end-mark}
 use Rattle.variables.specs.Variables as Variables
 use Rattle.variables.specs.Variables.{withOutputByte}
 use Rattle.log.specs.declared.Change.{Change}
@@ -168,9 +170,7 @@ module _ {n w t : ℕ} {h : Held} (r : Ready n w t h) (cs : List Change) where
 
 -- a program that comes to an end mark sets its outputs and stops there
 ends-there : (p : List ℕ) (r : Run) (v : ℕ) → lineAt p (r .line) ≡ State v 0 → (left n : ℕ) → runDue p left n r .run ≡ stopped (withOutputs v r)
-unfolding runDue step runLine
-ends-there p r v line zero n = rw line
-ends-there p r v line (suc left) n = rw line
+ends-there p r v line left n = ap (λ (x : Ran). x .run) (end-mark p r v line left n)
 
 -- so does 005 where the parameter names one, and 006, which leaves the rest of the run
 module _ (c : Controller) (a : Areas) (v : ℕ) (line : lineAt (a .program) (c .panel .parameter) ≡ State v 0) where

@@ -1,4 +1,5 @@
--- 01, 'Special commands' and 'Running', computed: every command and button in every state, and every event with what it leaves.
+-- 01, 'Special commands' and 'Running', and 02, item 2, computed: every command and button in every state, and every event with what it
+-- leaves.
 use mathlib.Core.List.{List, [], _∷_}
 use Rattle.demands.specs.Exchanges.{Point, point, _⇒_, _⇒_runs_}
 
@@ -125,10 +126,10 @@ running =
     ∷ "CR211^CR213^CR206^CR212^" ⇒ "001^0000^05^008^"
     ∷ []
     )
-    -- "Else take one off; above zero, go to the line after its For; at zero, free it and go on." One loop in another; "Count 0000 counts
-    -- as 0001".
+    -- "Else take one off; above zero, go to the line after its For; at zero, free it and go on." One loop in another, and one of one
+    -- round.
     ∷ point (
-    "CW000F10002^CW001S00000000010001^CW002F20002^CW003S00000000020001^CW004N2^CW005N1^CW006F30000^CW007S00000000030001^CW008N3^"
+    "CW000F10002^CW001S00000000010001^CW002F20002^CW003S00000000020001^CW004N2^CW005N1^CW006F30001^CW007S00000000030001^CW008N3^"
     ⇒ "OK^OK^OK^OK^OK^OK^OK^OK^OK^"
     ∷ "CW009F10001^CW010N1^CW011S00000000040000^" ⇒ "OK^OK^OK^"
     ∷ "!CR211^CR213^CR214^" ⇒ "001^0002^0000^" runs 1
@@ -138,6 +139,36 @@ running =
     ∷ "##" ⇒ "" runs 2
     ∷ "#CR211^CR213^CR214^CR215^CR206^" ⇒ "007^0000^0000^0001^03^" runs 3
     ∷ "#CR211^CR213^CR215^CR206^CR212^" ⇒ "011^0000^0000^04^011^" runs 3
+    ∷ []
+    )
+    -- 02, item 2: "For with count 0000 passes to the line after the first later Next of that counter and takes no counter". In a loop;
+    -- the line reads back as it was written.
+    ∷ point (
+    "CW000F10002^CW001F20000^CW002S00000000010001^CW003N2^CW004S00000000020001^CW005N1^CW006S00000000030000^CR212^CR001^"
+    ⇒ "OK^OK^OK^OK^OK^OK^OK^012^F20000^"
+    ∷ "!CR211^CR206^CR213^CR214^" ⇒ "004^02^0002^0000^" runs 2
+    ∷ "#CR211^CR206^CR213^CR214^" ⇒ "004^02^0001^0000^" runs 2
+    ∷ "#CR211^CR206^CR213^CR212^" ⇒ "006^03^0000^011^" runs 1
+    -- a start inside what it passes over
+    ∷ "CW209002^CW210005^#" ⇒ "OK^OK^" runs 1
+    ∷ "CR211^CR206^CR212^" ⇒ "003^01^008^"
+    -- "006 and 007 are still checked first": a busy counter; no later Next; both
+    ∷ "CW001F10000^CW003N1^!" ⇒ "OK^OK^" runs 2
+    ∷ "CR211^CR213^CR206^CR212^" ⇒ "001^0000^01^006^"
+    ∷ "CW001F30000^!" ⇒ "OK^" runs 2
+    ∷ "CR211^CR215^CR212^" ⇒ "001^0000^007^"
+    ∷ "CW001F20000^CW002N1^CW003N2^CW004F10000^CW005S00000000040000^!" ⇒ "OK^OK^OK^OK^OK^" runs 3
+    ∷ "CR211^CR212^" ⇒ "004^006^"
+    -- "If that Next is line 199, event 009 there." A Next before it is the first later one.
+    ∷ "CW010F40000^CW199N4^CW209010^CW210005^" ⇒ "OK^OK^OK^OK^" runs 1
+    ∷ "CR201^CR206^CR211^CR216^CR212^" ⇒ "80^01^199^0000^009^"
+    ∷ "CW012N4^CW013S00000000050000^CW210005^" ⇒ "OK^OK^OK^" runs 1
+    ∷ "CR206^CR211^CR212^" ⇒ "05^013^011^"
+    -- "The For still counts as run": 1 + 3 * 133 = 400 lines, and with one round more it is the 401st
+    ∷ "CW000F10133^CW001F20000^CW002N2^CW003F30000^CW004N3^CW005N1^CW006S00000000070000^!" ⇒ "OK^OK^OK^OK^OK^OK^OK^" runs 400
+    ∷ "CR206^CR211^CR212^" ⇒ "07^006^011^"
+    ∷ "CW000F10134^!" ⇒ "OK^" runs 400
+    ∷ "CR211^CR213^CR212^" ⇒ "001^0000^013^"
     ∷ []
     )
     -- "One call runs at most 400 For and Next lines. Were a 401st due, the program stops there with event 013"; "the one stopped by 013

@@ -1,14 +1,12 @@
--- Laws of the program area: a line stored is found, every other line stays, and the search for a Next.
+-- Laws of the program area: a line stored is found, and every other line stays.
 -- Assumes nothing.
 use mathlib.Core.Path.{_≡_, refl, sym, ap, _∙_}
 use mathlib.Core.Logic.{_≢_}
-use Prim.Native.Nat.{ℕ, zero, suc, _+_, _*_, _≤_, _<_}
-use mathlib.Core.Bool.{Bool, true, false}
+use Prim.Native.Nat.{ℕ, zero, suc, _+_, _*_, _≤_}
+use mathlib.Core.Bool.{true}
 use mathlib.Core.List.{List, [], _∷_, append-nil}
 use lib.ListN.{length, take, drop, length-append}
-use lib.Dec.{ltb}
 use native.Mathlib.Omega.{arith}
-use borrow.Author.Tests.{ltb-true, ltb-false}
 use Rattle.formats.specs.Checks.{all}
 use Rattle.formats.specs.Bytes.{part}
 use Rattle.formats.proofs.Checks.{all-drop}
@@ -16,7 +14,7 @@ use Rattle.formats.proofs.Digits.{isBelow}
 use Rattle.formats.proofs.Places.{same-place, other-place}
 use Rattle.lines.specs.declared.Line.{Line}
 use Rattle.lines.specs.Line.{readLine, bytesOf}
-use Rattle.lines.specs.Program.{lineAt, putLine, cleanedLines, firstNext, nextAfter}
+use Rattle.lines.specs.Program.{lineAt, putLine, cleanedLines}
 use Rattle.lines.proofs.Lines.{Ranged, read-ranged, Fits, bytes-back, length-bytes, Sets, Word, read-word}
 
 -- ---- one line alone
@@ -66,14 +64,3 @@ pub length-cleaned : (n : ℕ) (p : List ℕ) → length (cleanedLines n p) ≡ 
 unfolding cleanedLines
 length-cleaned zero p = refl
 length-cleaned (suc n) p = simp (length-append, length-bytes, length-cleaned n (drop 8 p)) (omega arith)
-
--- ---- the search for a Next
-
--- Line 199 has no later line, so a For that finds its Next stands on an earlier one.
-pub next-is-later : (p : List ℕ) (c k : ℕ) → k < 200 → nextAfter p c k ≢ 200 → k < 199
-unfolding nextAfter firstNext
-next-is-later p c k lt ne = go (ltb k 199) refl
-  where
-    go : (t : Bool) → ltb k 199 ≡ t → k < 199
-    go true e = ltb-true k 199 e
-    go false e = let le : 199 ≤ k = ltb-false k 199 e in let is : k ≡ 199 = omega arith in absurd (ne (rw is))

@@ -1,13 +1,14 @@
--- The search for a Next, line by line.
+-- The search for a Next, line by line, and that what it finds is the first later one.
 -- Assumes nothing.
 use mathlib.Core.Path.{_≡_, refl, sym, ap, _∙_}
 use mathlib.Core.Logic.{_≢_}
-use Prim.Native.Nat.{ℕ, suc, _+_, _*_, _-_, _<_}
-use mathlib.Core.Bool.{Bool, true, false}
+use Prim.Native.Nat.{ℕ, zero, suc, _+_, _*_, _-_, _≤_, _<_}
+use mathlib.Core.Bool.{Bool, true, false, true≢false}
 use mathlib.Core.List.{List, [], _∷_}
 use lib.ListN.{getD, drop}
+use lib.Dec.{eqb, ltb}
 use lib.Seq.{drop-drop, getD-drop}
-use borrow.Author.Tests.{eqb-true, ne-eqb}
+use borrow.Author.Tests.{eqb-true, eqb-false, eq-eqb, ne-eqb, ltb-true, ltb-false}
 use native.Mathlib.Omega.{arith}
 use types.Run.{OneOf, miss}
 use denote.Enum.Declared.{tagOf}
@@ -16,7 +17,7 @@ use Rattle.lines.proofs.Line as L
 use Rattle.lines.specs.declared.Line.{Line}
 use Rattle.lines.specs.declared.Line.the-variants.{State, For, Next}
 use Rattle.lines.specs.Line.{isState, isFor, isNext, readLine}
-use Rattle.lines.specs.Program.{lineAt, isNextOf, firstNext, nextAfter}
+use Rattle.lines.specs.Program.{lineAt, isNextOf, firstNext, nextAfter, FirstFrom, NoneFrom}
 
 -- a line that is no Next
 pub no-next : (c : ℕ) (l : Line) → OneOf (0 ∷ 1 ∷ []) (tagOf L.the-type l) → false ≡ isNextOf c l
@@ -73,3 +74,103 @@ module _ (p : List ℕ) (c i : ℕ) where
   pub search-ends : i ≡ 200 → nextFrom p c i ≡ 200
   unfolding firstNext
   search-ends e = rw e
+
+-- ---- what is found
+
+-- what the test of one line says
+is-next : (c : ℕ) (l : Line) → isNextOf c l ≡ true → l ≡ Next c
+is-next c (State o t) e = absurd (true≢false (sym e))
+is-next c (For n m) e = absurd (true≢false (sym e))
+is-next c (Next n) e = let is : c ≡ n = eqb-true c n e in rw is
+
+is-no-next : (c : ℕ) (l : Line) → isNextOf c l ≡ false → l ≢ Next c
+is-no-next c l e is = true≢false (sym (ap (isNextOf c) is ∙ eq-eqb c c refl) ∙ e)
+
+-- what holds of line i, and of line j if it is a later one, holds of line j from i on
+from-on : (i j : ℕ) (P : ℕ → Type 0) → P i → (i + 1 ≤ j → P j) → i ≤ j → P j
+from-on i j P h g le = go (eqb i j) refl
+  where
+    go : (t : Bool) → eqb i j ≡ t → P j
+    go true e = let is : i ≡ j = eqb-true i j e in rw is at h
+    go false e = let ne : i ≢ j = eqb-false i j e in g (omega arith)
+
+module _ (p : List ℕ) (c : ℕ) where
+  abbrev NotAt : ℕ → Type 0
+  NotAt j = lineAt p j ≢ Next c
+
+  -- what the search from line i on says of the program
+  data Found (i : ℕ) : Type 0 where
+    finds : FirstFrom p c i (nextFrom p c i) → Found i
+    ends : nextFrom p c i ≡ 200 → NoneFrom p c i → Found i
+
+  found-here : (i : ℕ) → i < 200 → isNextOf c (lineAt p i) ≡ true → Found i
+  found-here i lt h =
+      let at = search-found p c i lt h in
+      finds (rw at (record { notBefore = omega arith; inProgram = lt; next = is-next c _ h; noneBetween = λ j le up. absurd (omega arith) }))
+
+  found-on : (i : ℕ) → i < 200 → isNextOf c (lineAt p i) ≡ false → Found (i + 1) → Found i
+  found-on i lt h (finds f) =
+      let on = search-on p c i lt h in
+      finds (rw on (record {
+        notBefore = omega (arith, f .notBefore);
+        inProgram = f .inProgram;
+        next = f .next;
+        noneBetween = λ j le before. from-on i j NotAt (is-no-next c _ h) (λ up. f .noneBetween j up before) le;
+      }))
+  found-on i lt h (ends e none) =
+      ends (search-on p c i lt h ∙ e) (λ j le before. from-on i j NotAt (is-no-next c _ h) (λ up. none j up before) le)
+
+  -- with m lines to search
+  found-among : (m i : ℕ) → i + m ≡ 200 → Found i
+  found-among zero i e = ends (search-ends p c i (omega arith)) (λ j le lt. absurd (omega arith))
+  found-among (suc m) i e = go (isNextOf c (lineAt p i)) refl (found-among m (i + 1) (omega arith))
+    where
+      go : (t : Bool) → isNextOf c (lineAt p i) ≡ t → Found (i + 1) → Found i
+      go true h rest = found-here i (omega arith) h
+      go false h rest = found-on i (omega arith) h rest
+
+  -- there is one first Next at most, and none where there is no Next
+  not-before : (i m n : ℕ) → FirstFrom p c i m → FirstFrom p c i n → m < n → ⊥
+  not-before i m n f g lt = g .noneBetween m (f .notBefore) lt (f .next)
+
+  first-alone : (i m n : ℕ) → FirstFrom p c i m → FirstFrom p c i n → m ≡ n
+  first-alone i m n f g = go (ltb m n) refl (ltb n m) refl
+    where
+      go : (t : Bool) → ltb m n ≡ t → (u : Bool) → ltb n m ≡ u → m ≡ n
+      go true e u d = absurd (not-before i m n f g (ltb-true m n e))
+      go false e true d = absurd (not-before i n m g f (ltb-true n m d))
+      go false e false d = omega (arith, ltb-false m n e, ltb-false n m d)
+
+  first-or-none : (i n : ℕ) → FirstFrom p c i n → NoneFrom p c i → ⊥
+  first-or-none i n f none = none n (f .notBefore) (f .inProgram) (f .next)
+
+  module _ (k : ℕ) (lt : k < 200) where
+    begun : nextAfter p c k ≡ nextFrom p c (k + 1)
+    begun = search-begins p c k lt
+
+    found : Found (k + 1)
+    found = found-among (199 - k) (k + 1) (omega arith)
+
+    -- The search finds "the first later Next of that counter",
+    pub next-first : nextAfter p c k ≢ 200 → FirstFrom p c (k + 1) (nextAfter p c k)
+    next-first ne = go found
+      where
+        go : Found (k + 1) → FirstFrom p c (k + 1) (nextAfter p c k)
+        go (finds f) = rw begun f
+        go (ends e none) = absurd (ne (begun ∙ e))
+
+    -- and no other line;
+    pub first-next : (n : ℕ) → FirstFrom p c (k + 1) n → nextAfter p c k ≡ n
+    first-next n f = go found
+      where
+        go : Found (k + 1) → nextAfter p c k ≡ n
+        go (finds g) = begun ∙ first-alone (k + 1) (nextFrom p c (k + 1)) n g f
+        go (ends e none) = absurd (first-or-none (k + 1) n f none)
+
+    -- it says 200 where there is "no Next C on any later line".
+    pub none-next : NoneFrom p c (k + 1) → nextAfter p c k ≡ 200
+    none-next none = go found
+      where
+        go : Found (k + 1) → nextAfter p c k ≡ 200
+        go (finds f) = absurd (first-or-none (k + 1) (nextFrom p c (k + 1)) f none)
+        go (ends e none) = begun ∙ e

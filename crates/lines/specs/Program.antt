@@ -1,5 +1,7 @@
 -- The program area: 200 lines of eight bytes, numbered from 000.
-use Prim.Native.Nat.{ℕ, zero, suc, _+_, _*_, _-_}
+use Prim.Native.Nat.{ℕ, zero, suc, _+_, _*_, _-_, _≤_, _<_}
+use mathlib.Core.Path.{_≡_}
+use mathlib.Core.Logic.{_≢_}
 use mathlib.Core.Bool.{Bool, true, false}
 use mathlib.Core.List.{List, [], _++_}
 use lib.ListN.{drop}
@@ -39,3 +41,14 @@ firstNext c (suc n) k p = elim (isNextOf c (readLine p)) [ true ↦ k | false �
 -- The search for a Next: the first Next of counter c on a line later than k; 200 where there is none.
 unfoldable pub nextAfter : List ℕ → ℕ → ℕ → ℕ
 nextAfter p c k = firstNext c (199 - k) (k + 1) (drop (8 * (k + 1)) p)
+
+-- What the search is for, in the paper's words. 02, item 2: "the first later Next of that counter" is line n, if the first later line is i.
+pub record FirstFrom (p : List ℕ) (c i n : ℕ) : Type 0 where
+  pub notBefore : i ≤ n
+  pub inProgram : n < 200
+  pub next : lineAt p n ≡ Next c
+  pub noneBetween : (j : ℕ) → i ≤ j → j < n → lineAt p j ≢ Next c
+
+-- 01: "no Next C on any later line"
+abbrev pub NoneFrom : List ℕ → ℕ → ℕ → Type 0
+NoneFrom p c i = (j : ℕ) → i ≤ j → j < 200 → lineAt p j ≢ Next c

@@ -1,24 +1,24 @@
 -- A start or a tick runs at most 400 For and Next lines, and it raises an event exactly if it ends the program.
 -- Assumes nothing.
-use Prim.Native.Nat.{ℕ, zero, suc, _+_, _-_, _≤_}
+use Prim.Native.Nat.{ℕ, zero, suc, _+_, _≤_}
 use native.Mathlib.Omega.{arith}
 use native.Mathlib.Nat.{le-trans}
 use mathlib.Core.Path.{_≡_, refl, sym, _∙_}
 use mathlib.Core.Logic.{_≢_}
 use mathlib.Core.Bool.{true, false, not, true≢false}
 use mathlib.Core.List.{List}
-use lib.Dec.{eqb, ltb}
 use Rattle.formats.proofs.Checks.{if-case}
 use Rattle.lines.specs.declared.Line.{Line}
 use Rattle.lines.specs.declared.Line.the-variants.{State, For, Next}
-use Rattle.lines.specs.Program.{lineAt, nextAfter}
+use Rattle.lines.specs.Program.{lineAt}
 use Rattle.running.specs.declared.Run.{Run}
 use Rattle.running.specs.declared.How.{How}
 use Rattle.running.specs.declared.How.the-variants.{Holds, Ends, GoesOn}
 use Rattle.running.specs.declared.Step.{Step}
 use Rattle.running.specs.declared.Ran.{Ran}
-use Rattle.running.specs.Running.{allFree, counter, isBusy, isFree, stopped, holds, ends, onward, runLine, isForOrNext}
+use Rattle.running.specs.Running.{allFree, stopped, holds, ends, onward, runLine, isForOrNext}
 use Rattle.running.specs.Running.{counted, stops, isHeld, follow, step, runDue, most, start, tick}
+use Rattle.running.proofs.Ways.{onward-ways, state-ways, for-ways, next-ways}
 use Rattle.running.proofs.Turns.{counted-one}
 
 -- ---- at most 400 lines
@@ -79,18 +79,17 @@ goes-tell : (s : Step) → s .run .on ≡ true → s .how ≡ GoesOn → Tells s
 goes-tell s on g = record { running = on; event = λ e h z. not-ends′ h g }
 
 onward-tell : (r : Run) → r .on ≡ true → Tells (onward r)
-unfolding onward
-onward-tell r on = if-case Tells (ltb (r .line) 199) (λ _. goes-tell _ on refl) (λ _. ends-tell 9 r on (omega arith))
+onward-tell r on = onward-ways Tells r (λ _. goes-tell _ on refl) (λ _. ends-tell 9 r on (omega arith))
 
 line-tell : (p : List ℕ) (l : Line) (r : Run) → r .on ≡ true → Tells (runLine p l r)
-unfolding runLine
-line-tell p (State o t) r on = if-case Tells (eqb t 0) (λ _. ends-tell 11 _ on (omega arith)) (λ _. holds-tell _ on)
+line-tell p (State o t) r on = state-ways Tells p r o t (λ _. holds-tell _ on) (λ _. ends-tell 11 _ on (omega arith))
 line-tell p (For c n) r on =
-    if-case Tells (isBusy r c) (λ _. ends-tell 6 r on (omega arith)) λ _.
-    if-case Tells (eqb (nextAfter p c (r .line)) 200) (λ _. ends-tell 7 r on (omega arith)) (λ _. onward-tell _ on)
-line-tell p (Next c) r on =
-    if-case Tells (isFree r c) (λ _. ends-tell 8 r on (omega arith)) λ _.
-    if-case Tells (ltb 0 (counter r c .count - 1)) (λ _. goes-tell _ on refl) (λ _. onward-tell _ on)
+    for-ways Tells p r c n
+    (λ _. ends-tell 6 r on (omega arith))
+    (λ _ _. ends-tell 7 r on (omega arith))
+    (λ _ _ _. onward-tell _ on)
+    (λ _ _ _. onward-tell _ on)
+line-tell p (Next c) r on = next-ways Tells p r c (λ _. ends-tell 8 r on (omega arith)) (λ _. goes-tell _ on refl) (λ _. onward-tell _ on)
 
 step-tell : (p : List ℕ) (r : Run) → r .on ≡ true → Tells (step p r)
 unfolding step

@@ -1,4 +1,4 @@
--- Programs small enough to follow by hand, run by the rules alone: each rule of 01, 'Running', shows in one of them.
+-- Programs small enough to follow by hand, run by the rules alone: each rule of 01, 'Running', and of 02, item 2, shows in one of them.
 -- Assumes nothing.
 use mathlib.Core.Path.{_≡_, refl}
 use Prim.Native.Nat.{ℕ, suc}
@@ -71,12 +71,38 @@ examples =
     ∷ these (For 1 400 ∷ Next 1 ∷ State 7 0 ∷ []) startedAt 0 gives ((0 ∷ 0 ∷ 1 ∷ 0 ∷ 13 ∷ 400 ∷ []) ∷ [])
     -- 7: on past line 199: 009, and the line stays
     ∷ (replicate 1592 0 ++ bytesOf (State 5 1)) startedAt 199 gives ((1 ∷ 5 ∷ 199 ∷ 0 ∷ 0 ∷ 0 ∷ []) ∷ (0 ∷ 5 ∷ 199 ∷ 0 ∷ 9 ∷ 0 ∷ []) ∷ [])
-    -- 8: count 0000 runs its body once
-    ∷ these (For 1 0 ∷ State 3 1 ∷ Next 1 ∷ State 0 0 ∷ [])
+    -- 8: count 0000 runs its body not at all; the For is the one line counted
+    ∷ these (For 1 0 ∷ State 3 1 ∷ Next 1 ∷ State 4 2 ∷ [])
     startedAt 0
-    gives ((1 ∷ 3 ∷ 1 ∷ 1 ∷ 0 ∷ 1 ∷ []) ∷ (0 ∷ 0 ∷ 3 ∷ 0 ∷ 11 ∷ 1 ∷ []) ∷ [])
+    gives ((1 ∷ 4 ∷ 3 ∷ 0 ∷ 0 ∷ 1 ∷ []) ∷ (1 ∷ 4 ∷ 3 ∷ 0 ∷ 0 ∷ 0 ∷ []) ∷ (0 ∷ 0 ∷ 4 ∷ 0 ∷ 11 ∷ 0 ∷ []) ∷ [])
     -- 9: a counter that is free again can be used again
     ∷ these (For 1 1 ∷ Next 1 ∷ For 1 1 ∷ Next 1 ∷ State 2 9 ∷ []) startedAt 0 gives ((1 ∷ 2 ∷ 4 ∷ 0 ∷ 0 ∷ 4 ∷ []) ∷ [])
+    -- 10: a loop of none in a loop, passed on each round
+    ∷ these (For 1 2 ∷ For 2 0 ∷ State 3 1 ∷ Next 2 ∷ State 4 1 ∷ Next 1 ∷ [])
+    startedAt 0
+    gives ((1 ∷ 4 ∷ 4 ∷ 2 ∷ 0 ∷ 2 ∷ []) ∷ (1 ∷ 4 ∷ 4 ∷ 1 ∷ 0 ∷ 2 ∷ []) ∷ (0 ∷ 0 ∷ 6 ∷ 0 ∷ 11 ∷ 1 ∷ []) ∷ [])
+    -- 11 and 12: around a loop of its own counter, whose Next is the first later one; across a loop of another, whose Next stands behind
+    ∷ these (For 1 0 ∷ For 1 2 ∷ State 3 1 ∷ Next 1 ∷ Next 1 ∷ []) startedAt 0 gives ((0 ∷ 0 ∷ 4 ∷ 0 ∷ 8 ∷ 2 ∷ []) ∷ [])
+    ∷ these (For 1 0 ∷ For 2 2 ∷ Next 1 ∷ State 3 1 ∷ Next 2 ∷ [])
+    startedAt 0
+    gives ((1 ∷ 3 ∷ 3 ∷ 0 ∷ 0 ∷ 1 ∷ []) ∷ (0 ∷ 3 ∷ 4 ∷ 0 ∷ 8 ∷ 1 ∷ []) ∷ [])
+    -- 13: a start inside the body that is passed over: 008
+    ∷ these (For 1 0 ∷ State 3 1 ∷ Next 1 ∷ []) startedAt 1 gives ((1 ∷ 3 ∷ 1 ∷ 0 ∷ 0 ∷ 0 ∷ []) ∷ (0 ∷ 3 ∷ 2 ∷ 0 ∷ 8 ∷ 1 ∷ []) ∷ [])
+    -- 14 to 16: with count 0000 too, a busy counter is 006, no later Next 007, and 006 comes first
+    ∷ these (For 1 1 ∷ For 1 0 ∷ Next 1 ∷ []) startedAt 0 gives ((0 ∷ 0 ∷ 1 ∷ 0 ∷ 6 ∷ 2 ∷ []) ∷ [])
+    ∷ these (Next 1 ∷ For 1 0 ∷ Next 2 ∷ []) startedAt 1 gives ((0 ∷ 0 ∷ 1 ∷ 0 ∷ 7 ∷ 1 ∷ []) ∷ [])
+    ∷ these (For 1 2 ∷ For 2 0 ∷ Next 1 ∷ Next 2 ∷ For 1 0 ∷ []) startedAt 0 gives ((0 ∷ 0 ∷ 4 ∷ 0 ∷ 6 ∷ 3 ∷ []) ∷ [])
+    -- 17: its Next on line 199: 009, on that line
+    ∷ (these (State 5 1 ∷ For 1 0 ∷ []) ++ replicate 1576 0 ++ bytesOf (Next 1))
+    startedAt 0
+    gives ((1 ∷ 5 ∷ 0 ∷ 0 ∷ 0 ∷ 0 ∷ []) ∷ (0 ∷ 5 ∷ 199 ∷ 0 ∷ 9 ∷ 1 ∷ []) ∷ [])
+    -- 18 and 19: 400 lines in one call, 266 of them loops of none, and a 401st due, which is one
+    ∷ these (For 1 133 ∷ For 2 0 ∷ Next 2 ∷ For 3 0 ∷ Next 3 ∷ Next 1 ∷ State 7 0 ∷ [])
+    startedAt 0
+    gives ((0 ∷ 7 ∷ 6 ∷ 0 ∷ 11 ∷ 400 ∷ []) ∷ [])
+    ∷ these (For 1 134 ∷ For 2 0 ∷ Next 2 ∷ For 3 0 ∷ Next 3 ∷ Next 1 ∷ State 7 0 ∷ [])
+    startedAt 0
+    gives ((0 ∷ 0 ∷ 1 ∷ 0 ∷ 13 ∷ 400 ∷ []) ∷ [])
     ∷ []
 
 running-examples : failing 1 examples ≡ []

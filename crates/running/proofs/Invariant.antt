@@ -3,27 +3,27 @@
 use Prim.Native.Nat.{ℕ, zero, suc, _+_, _-_, _≤_, _<_}
 use native.Mathlib.Omega.{arith}
 use mathlib.Core.Path.{_≡_, refl, sym, _∙_}
-use mathlib.Core.Logic.{_≢_}
 use mathlib.Core.Bool.{true, not, true≢false}
 use mathlib.Core.List.{List, [], _∷_}
 use lib.ListN.{getD, set}
-use lib.Dec.{eqb, ltb}
-use borrow.Author.Tests.{eqb-false, ltb-true, not-false}
+use borrow.Author.Tests.{not-false}
 use Rattle.formats.proofs.Checks.{if-case}
 use Rattle.lines.specs.declared.Line.{Line}
 use Rattle.lines.specs.declared.Line.the-variants.{State, For, Next}
-use Rattle.lines.specs.Program.{lineAt, nextAfter}
+use Rattle.lines.specs.Program.{lineAt}
 use Rattle.lines.proofs.Lines.{Ranged}
-use Rattle.lines.proofs.Places.{next-is-later, line-ranged}
+use Rattle.lines.proofs.Places.{line-ranged}
+use Rattle.lines.proofs.Search.{next-first}
 use Rattle.running.specs.declared.Counter.{Counter}
 use Rattle.running.specs.declared.Run.{Run}
 use Rattle.running.specs.declared.How.{How}
 use Rattle.running.specs.declared.How.the-variants.{Holds, Ends, GoesOn}
 use Rattle.running.specs.declared.Step.{Step}
 use Rattle.running.specs.declared.Ran.{Ran}
-use Rattle.running.specs.Running.{begun, free, allFree, counter, isBusy, isFree, withOutputs, waiting, withCounter, stopped, ends, goesTo}
-use Rattle.running.specs.Running.{onward, atLeastOne, runLine, isForOrNext, isHeld, follow, step, runDue, most, start, tick}
+use Rattle.running.specs.Running.{begun, free, allFree, counter, atLine, withOutputs, waiting, withCounter, stopped, ends, goesTo}
+use Rattle.running.specs.Running.{onward, runLine, isForOrNext, isHeld, follow, step, runDue, most, start, tick}
 use Rattle.running.specs.Invariant.{RunInvariant}
+use Rattle.running.proofs.Ways.{onward-ways, state-ways, for-ways, next-ways}
 
 -- ---- counters
 
@@ -85,13 +85,14 @@ stopped-kept r lt =
 ends-going : (e : ℕ) (r : Run) → Going r → GoingStep (ends e r)
 ends-going e r g = record { going = g }
 
+at-going : (k : ℕ) (r : Run) → k < 200 → Going r → Going (atLine k r)
+at-going k r lt g = record { on = g .on; inProgram = lt; forLine = g .forLine; count = g .count; time = g .time }
+
 goes-going : (k : ℕ) (r : Run) → k < 200 → Going r → GoingStep (goesTo k r)
-goes-going k r lt g = record { going = record { on = g .on; inProgram = lt; forLine = g .forLine; count = g .count; time = g .time } }
+goes-going k r lt g = record { going = at-going k r lt g }
 
 pub onward-going : (r : Run) → Going r → GoingStep (onward r)
-unfolding onward
-onward-going r g =
-    if-case GoingStep (ltb (r .line) 199) (λ e. goes-going (r .line + 1) r (omega (arith, ltb-true (r .line) 199 e)) g) (λ _. ends-going 9 r g)
+onward-going r g = onward-ways GoingStep r (λ lt. goes-going (r .line + 1) r (omega arith) g) (λ _. ends-going 9 r g)
 
 state-going : (o t : ℕ) (r : Run) → t ≤ 9999 → Going r → Going (waiting t (withOutputs o r))
 state-going o t r le g = record { on = g .on; inProgram = g .inProgram; forLine = g .forLine; count = g .count; time = le }
@@ -109,24 +110,21 @@ counter-going c v r l n g =
       time = g .time;
     }
 
-at-least-one : (n : ℕ) → n ≤ 9999 → atLeastOne n ≤ 9999
-at-least-one n le = if-case (λ m. m ≤ 9999) (eqb n 0) (λ _. omega arith) (λ _. le)
-
 line-going : (p : List ℕ) (l : Line) (r : Run) → Ranged l → Going r → GoingStep (runLine p l r)
-unfolding runLine
 line-going p (State o t) r q g =
-    if-case GoingStep (eqb t 0) (λ _. ends-going 11 _ (outputs-going _ r g)) (λ _. record { going = state-going _ t r (q .range) g })
+    state-ways GoingStep p r o t (λ _. record { going = state-going o t r (q .range) g }) (λ _. ends-going 11 _ (outputs-going o r g))
 line-going p (For c n) r q g =
-    if-case GoingStep (isBusy r c) (λ _. ends-going 6 r g) λ _.
-    if-case GoingStep (eqb (nextAfter p c (r .line)) 200) (λ _. ends-going 7 r g) λ e.
-    let found : nextAfter p c (r .line) ≢ 200 = eqb-false _ _ e in
-    let lt = next-is-later p c (r .line) (g .inProgram) found in
-    onward-going _ (counter-going c _ r lt (at-least-one n (q .range .1)) g)
+    let first = next-first p c (r .line) (g .inProgram) in
+    for-ways GoingStep p r c n
+    (λ _. ends-going 6 r g)
+    (λ _ _. ends-going 7 r g)
+    (λ _ found _. onward-going _ (at-going _ r (first found .inProgram) g))
+    (λ _ found _. onward-going _ (counter-going c _ r (omega (arith, first found .notBefore, first found .inProgram)) (q .range .1) g))
 line-going p (Next c) r q g =
-    if-case GoingStep (isFree r c) (λ _. ends-going 8 r g) λ _.
     let l : counter r c .line < 199 = g .forLine (c - 1) in
     let n : counter r c .count ≤ 9999 = g .count (c - 1) in
-    if-case GoingStep (ltb 0 (counter r c .count - 1))
+    next-ways GoingStep p r c
+    (λ _. ends-going 8 r g)
     (λ _. goes-going _ _ (omega arith) (counter-going c _ r l (omega arith) g))
     (λ _. onward-going _ (counter-going c free r (omega arith) (omega arith) g))
 

@@ -1,20 +1,20 @@
 -- What holds of the outputs and of all that the lines of the program set them to holds of them after a start and after a tick.
 -- Assumes nothing.
-use Prim.Native.Nat.{ℕ, zero, suc, _-_}
+use Prim.Native.Nat.{ℕ, zero, suc}
 use mathlib.Core.Bool.{not}
 use mathlib.Core.List.{List}
-use lib.Dec.{eqb, ltb}
 use Rattle.formats.proofs.Checks.{if-case}
 use Rattle.lines.specs.declared.Line.{Line}
 use Rattle.lines.specs.declared.Line.the-variants.{State, For, Next}
-use Rattle.lines.specs.Program.{lineAt, nextAfter}
+use Rattle.lines.specs.Program.{lineAt}
 use Rattle.lines.proofs.Lines.{Sets}
 use Rattle.running.specs.declared.Run.{Run}
 use Rattle.running.specs.declared.How.{How}
 use Rattle.running.specs.declared.How.the-variants.{Holds, Ends, GoesOn}
 use Rattle.running.specs.declared.Step.{Step}
 use Rattle.running.specs.declared.Ran.{Ran}
-use Rattle.running.specs.Running.{counter, isBusy, isFree, begun, stopped, onward, runLine, isForOrNext, isHeld, follow, step, runDue, most, start, tick}
+use Rattle.running.specs.Running.{begun, stopped, onward, runLine, isForOrNext, isHeld, follow, step, runDue, most, start, tick}
+use Rattle.running.proofs.Ways.{onward-ways, state-ways, for-ways, next-ways}
 
 -- P is what holds of the outputs
 module _ (P : ℕ → Type 0) where
@@ -25,18 +25,12 @@ module _ (P : ℕ → Type 0) where
   OfRan x = P (x .run .outputs)
 
   onward-outputs : (r : Run) → P (r .outputs) → OfStep (onward r)
-  unfolding onward
-  onward-outputs r h = if-case OfStep (ltb (r .line) 199) (λ _. h) (λ _. h)
+  onward-outputs r h = onward-ways OfStep r (λ _. h) (λ _. h)
 
   line-outputs : (p : List ℕ) (l : Line) (r : Run) → Sets P l → P (r .outputs) → OfStep (runLine p l r)
-  unfolding runLine
-  line-outputs p (State o t) r s h = if-case OfStep (eqb t 0) (λ _. s) (λ _. s)
-  line-outputs p (For c n) r s h =
-      if-case OfStep (isBusy r c) (λ _. h) λ _.
-      if-case OfStep (eqb (nextAfter p c (r .line)) 200) (λ _. h) (λ _. onward-outputs _ h)
-  line-outputs p (Next c) r s h =
-      if-case OfStep (isFree r c) (λ _. h) λ _.
-      if-case OfStep (ltb 0 (counter r c .count - 1)) (λ _. h) (λ _. onward-outputs _ h)
+  line-outputs p (State o t) r s h = state-ways OfStep p r o t (λ _. s) (λ _. s)
+  line-outputs p (For c n) r s h = for-ways OfStep p r c n (λ _. h) (λ _ _. h) (λ _ _ _. onward-outputs _ h) (λ _ _ _. onward-outputs _ h)
+  line-outputs p (Next c) r s h = next-ways OfStep p r c (λ _. h) (λ _. h) (λ _. onward-outputs _ h)
 
   follow-outputs : (h : How) (n : ℕ) (r : Run) (go : Run → Ran) → P (r .outputs) → ((s : Run) → P (s .outputs) → OfRan (go s)) → OfRan (follow h n r go)
   unfolding stopped

@@ -10,7 +10,7 @@ use lib.Dec.{leb, eqb}
 use borrow.Author.Tests.{leb-true, eqb-false}
 use types.Run.{OneOf, miss}
 use denote.Enum.Declared.{tagOf}
-use Rattle.formats.proofs.Checks.{if-case, both-true}
+use Rattle.formats.proofs.Checks.{both-true}
 use Rattle.lines.specs.declared.Line.{Line}
 use Rattle.lines.specs.declared.Line.the-variants.{State, For, Next}
 use Rattle.lines.specs.Line.{isCounter}
@@ -21,8 +21,10 @@ use Rattle.running.specs.declared.Run.{Run}
 use Rattle.running.specs.declared.How.the-variants.{Holds, Ends, GoesOn}
 use Rattle.running.specs.declared.Step.{Step}
 use Rattle.running.specs.Running.{onward, tick, runLine, isForOrNext, counted, stops, rests, follow, step, runDue}
+use Rattle.running.proofs.Ways.{state-ways}
 use Rattle.running.proofs.Invariant.{Going, onward-going, step-going}
 use Rattle.running.proofs.Waiting.{due-at}
+use Rattle.running.proofs.Steps.{loop-over}
 
 -- ---- the counters that lines name
 
@@ -43,8 +45,7 @@ next-counter p k e = (rw e at (line-ranged p k)) .range
 
 -- a line after which the next falls due is counted
 goes-counted : (p : List ℕ) (l : Line) (r : Run) → runLine p l r .how ≡ GoesOn → counted l ≡ 1
-unfolding runLine
-goes-counted p (State o t) r = if-case (λ (s : Step). s .how ≡ GoesOn → _≡_ {A = ℕ} 0 1) (eqb t 0) (λ _ h. cc) (λ _ h. cc)
+goes-counted p (State o t) r = state-ways (λ (s : Step). s .how ≡ GoesOn → _≡_ {A = ℕ} 0 1) p r o t (λ _ h. cc) (λ _ h. cc)
 goes-counted p (For c n) r = λ h. refl
 goes-counted p (Next c) r = λ h. refl
 
@@ -88,8 +89,7 @@ other-counted (Next c) h = refl
 -- the line that is due when no more may be counted
 module _ (p : List ℕ) (r : Run) (n : ℕ) (l : Line) (due : l ≡ lineAt p (r .line)) where
   pub last-stops : OneOf (1 ∷ 2 ∷ []) (tagOf L.the-type l) → stops 13 n r ≡ runDue p 0 n r
-  unfolding runDue
-  last-stops h = let t = ap isForOrNext (sym due) ∙ other-counted l h in rw t
+  last-stops h = sym (loop-over p r (ap isForOrNext (sym due) ∙ other-counted l h) n)
 
   module _ {o t : ℕ} (state : l ≡ State o t) (s : Step) (is : s ≡ runLine [] (State o t) r) where
     last : runDue p 0 n r ≡ follow (s .how) n (s .run) (λ x. rests n x)

@@ -76,21 +76,21 @@ goesTo k r = record { run = atLine k r; how = GoesOn }
 unfoldable pub onward : Run → Step
 onward r = if ltb (r .line) 199 then goesTo (r .line + 1) r else ends 9 r
 
--- 01: "Count 0000 counts as 0001 (*house*)."
-abbrev pub atLeastOne : ℕ → ℕ
-atLeastOne n = if eqb n 0 then 1 else n
-
 unfoldable pub runLine : List ℕ → Line → Run → Step
 -- "State, time T above 0: set all 32 outputs at once; the next line falls due on the T-th tick taken unpaused."
 -- "State, time 0: set outputs, stop, event 011."
 runLine p (State outputs time) r =
     if eqb time 0 then ends 11 (withOutputs outputs r)
     else holds (waiting time (withOutputs outputs r))
--- "For C: busy counter, event 006; else no Next C on any later line, 007; else the counter takes the count and is busy."
+-- "For C: busy counter, event 006; else no Next C on any later line, 007; else the counter takes the count and is busy." And 02, item 2:
+-- "For with count 0000 passes to the line after the first later Next of that counter and takes no counter; 006 and 007 are still checked
+-- first. If that Next is line 199, event 009 there."
 runLine p (For c count) r =
+    let next = nextAfter p c (r .line) in
     if isBusy r c then ends 6 r
-    else if eqb (nextAfter p c (r .line)) 200 then ends 7 r
-    else onward (withCounter c (record { count = atLeastOne count; line = r .line }) r)
+    else if eqb next 200 then ends 7 r
+    else if eqb count 0 then onward (atLine next r)
+    else onward (withCounter c (record { count = count; line = r .line }) r)
 -- "Next C: counter not busy, 008, even if a For stands above (a start inside a loop). Else take one off; above zero, go to the
 -- line after its For; at zero, free it and go on."
 runLine p (Next c) r =

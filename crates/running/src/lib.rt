@@ -186,7 +186,8 @@ impl Run {
         }
     }
 
-    // A For line takes its counter and goes on; with a busy counter event 006, with no later Next of it event 007.
+    // A For line takes its counter and goes on; with a busy counter event 006, with no later Next of it event 007. With count 0000 it
+    // takes none and goes on from that Next.
     fn run_for(mut self, p: &[u8], counter: u8, count: u16) -> Step
         requires { ⌜ (length (now p) ≡ 1600) × (self .line < 200) × (isCounter counter ≡ true) ⌝ }
         ensures step { λ r. ⌜ r ≡ runLine (now (p .entry)) (For counter count) self ⌝ }
@@ -209,7 +210,7 @@ impl Run {
             };
         }
         if count == 0 {
-            self.counters[c] = Counter { count: 1, line };
+            self.line = next;
             return self.onward();
         }
         self.counters[c] = Counter { count, line };

@@ -34,15 +34,6 @@ returns-2 c =
     let if1 = c .before .before .if1 in
     simp (le-ltb _ _ (if1 .left), eq-eqb _ _ (sym (c .before .next-after .ensures) ∙ c .if2 .taken))
 
-mul-t22 : tie.Need-mul-t22
-mul-t22 c = search needs
-
-element-set-from-self : tie.Need-element-set-from-self
-element-set-from-self c =
-    let args = c .before .before .before .before .before .before .args in
-    let pre = c .before .before .before .before .before .before .pre in
-    omega (arith, counter-range (args .counter) (pre .2))
-
 onward-requires : tie.Need-onward-requires
 onward-requires c κs = search needs
 
@@ -52,13 +43,19 @@ returns-3 c =
     let if1 = c .before .before .before .before .if1 in
     let next-after = c .before .before .before .next-after in
     let if2 = c .before .before .if2 in
-    simp (c .onward .ensures, le-ltb _ _ (if1 .left), ne-eqb _ _ (λ e. if2 .left (next-after .ensures ∙ e)), eq-eqb _ _ (c .before .if3 .taken))
+    simp (
+      c .onward .ensures,
+      le-ltb _ _ (if1 .left),
+      ne-eqb _ _ (λ e. if2 .left (next-after .ensures ∙ e)),
+      eq-eqb _ _ (c .before .if3 .taken),
+      next-after .ensures,
+    )
 
 mul-t12 : tie.Need-mul-t12
 mul-t12 c = search needs
 
-element-set-from-self-2 : tie.Need-element-set-from-self-2
-element-set-from-self-2 c =
+element-set-from-self : tie.Need-element-set-from-self
+element-set-from-self c =
     let args = c .before .before .before .before .before .before .args in
     let pre = c .before .before .before .before .before .before .pre in
     omega (arith, counter-range (args .counter) (pre .2))
@@ -85,11 +82,9 @@ run-for-spec =
     returns
     next-after-requires
     returns-2
-    mul-t22
-    element-set-from-self
     onward-requires
     returns-3
     mul-t12
-    element-set-from-self-2
+    element-set-from-self
     onward-requires-2
     returns-4)

@@ -1,0 +1,68 @@
+-- The ways that a line can go, each with its condition: what holds of every way whose condition holds, holds of what the line leads to.
+-- `Invariant`, `Turns`, `Ending` and `Outputs`, which speak of every line, go by these laws and not by the text of `runLine`. `Steps` has
+-- the equations: to what each condition leads.
+-- Assumes nothing.
+use Prim.Native.Nat.{ℕ, _+_, _-_, _≤_, _<_}
+use native.Mathlib.Omega.{arith}
+use mathlib.Core.Path.{_≡_}
+use mathlib.Core.Logic.{_≢_}
+use mathlib.Core.List.{List}
+use lib.Dec.{eqb, ltb}
+use borrow.Author.Tests.{eqb-true, eqb-false, ltb-true, ltb-false}
+use Rattle.formats.proofs.Checks.{if-case}
+use Rattle.lines.specs.declared.Line.the-variants.{State, For, Next}
+use Rattle.lines.specs.Program.{nextAfter}
+use Rattle.running.specs.declared.Run.{Run}
+use Rattle.running.specs.declared.Step.{Step}
+use Rattle.running.specs.Running.{free, counter, isBusy, isFree, atLine, withOutputs, waiting, withCounter, holds, ends, goesTo, onward, runLine}
+
+module _ (P : Step → Type 0) (r : Run) where
+  -- "Going on past 199: event 009, line stays 199."
+  pub onward-ways : (r .line < 199 → P (goesTo (r .line + 1) r)) → (199 ≤ r .line → P (ends 9 r)) → P (onward r)
+  unfolding onward
+  onward-ways on past = if-case P (ltb (r .line) 199) (λ e. on (ltb-true (r .line) 199 e)) (λ e. past (ltb-false (r .line) 199 e))
+
+module _ (P : Step → Type 0) (p : List ℕ) (r : Run) where
+  -- "State, time T above 0: set all 32 outputs at once [...]" "State, time 0: set outputs, stop, event 011."
+  pub state-ways : (outputs time : ℕ)
+      → (0 < time → P (holds (waiting time (withOutputs outputs r))))
+      → (time ≡ 0 → P (ends 11 (withOutputs outputs r)))
+      → P (runLine p (State outputs time) r)
+  unfolding runLine
+  state-ways outputs time held last =
+      if-case P (eqb time 0) (λ e. last (eqb-true time 0 e)) (λ e. let ne : time ≢ 0 = eqb-false time 0 e in held (omega arith))
+
+  -- "For C: busy counter, event 006; else no Next C on any later line, 007; else the counter takes the count and is busy." With count 0000
+  -- it "passes to the line after the first later Next of that counter and takes no counter".
+  pub for-ways : (c count : ℕ)
+      → (0 < counter r c .count → P (ends 6 r))
+      → (counter r c .count ≡ 0 → nextAfter p c (r .line) ≡ 200 → P (ends 7 r))
+      → (counter r c .count ≡ 0 → nextAfter p c (r .line) ≢ 200 → count ≡ 0 → P (onward (atLine (nextAfter p c (r .line)) r)))
+      → (counter r c .count ≡ 0 → nextAfter p c (r .line) ≢ 200 → 0 < count
+      → P (onward (withCounter c (record { count = count; line = r .line }) r)))
+      → P (runLine p (For c count) r)
+  unfolding runLine
+  for-ways c count busy alone none takes =
+      if-case P (isBusy r c) (λ e. busy (ltb-true 0 (counter r c .count) e)) λ e.
+      let idle : counter r c .count ≡ 0 = omega (arith, ltb-false 0 (counter r c .count) e) in
+      if-case P (eqb (nextAfter p c (r .line)) 200) (λ e. alone idle (eqb-true _ 200 e)) λ e.
+      let found : nextAfter p c (r .line) ≢ 200 = eqb-false _ 200 e in
+      if-case P (eqb count 0) (λ e. none idle found (eqb-true count 0 e)) λ e.
+      let above : count ≢ 0 = eqb-false count 0 e in
+      takes idle found (omega arith)
+
+  -- "Next C: counter not busy, 008, even if a For stands above (a start inside a loop). Else take one off; above zero, go to the line
+  -- after its For; at zero, free it and go on."
+  pub next-ways : (c : ℕ)
+      → (counter r c .count ≡ 0 → P (ends 8 r))
+      → (1 < counter r c .count
+      → P (goesTo (counter r c .line + 1) (withCounter c (record { count = counter r c .count - 1; line = counter r c .line }) r)))
+      → (counter r c .count ≡ 1 → P (onward (withCounter c free r)))
+      → P (runLine p (Next c) r)
+  unfolding runLine
+  next-ways c alone back last =
+      if-case P (isFree r c) (λ e. alone (eqb-true (counter r c .count) 0 e)) λ e.
+      let busy : counter r c .count ≢ 0 = eqb-false (counter r c .count) 0 e in
+      if-case P (ltb 0 (counter r c .count - 1))
+      (λ e. back (omega (arith, ltb-true 0 (counter r c .count - 1) e)))
+      (λ e. last (omega (arith, ltb-false 0 (counter r c .count - 1) e)))
