@@ -10,9 +10,8 @@ use Rattle.lines.specs.declared.Line.the-variants.{State, For, Next}
 use Rattle.lines.specs.Program.{lineAt, nextAfter, FirstFrom, NoneFrom}
 use Rattle.lines.proofs.Search.{first-next, none-next}
 use Rattle.running.specs.declared.Run.{Run}
-use Rattle.running.specs.Running.{free, counter, atLine, withOutputs, waiting, withCounter, stopped, ends}
-use Rattle.running.specs.Running.{goesTo, onward, runLine, isForOrNext, stops, follow, step}
-use Rattle.running.specs.Running.{runDue, most, tick, ticks}
+use Rattle.running.specs.Running.{free, counter, atLine, withOutputs, waiting, withCounter, stopped, ends, goesTo, onward, runLine}
+use Rattle.running.specs.Running.{isForOrNext, stops, follow, step, runDue, most, tick, ticks}
 use Rattle.running.proofs.Waiting.{held-until, due-at}
 
 -- ---- "State, time T above 0: set all 32 outputs at once; the next line falls due on the T-th tick taken unpaused."

@@ -3,11 +3,10 @@
 use Prim.Native.Nat.{ℕ, suc, _+_, _-_, _≤_, _<_}
 use native.Mathlib.Omega.{arith}
 use mathlib.Core.Path.{_≡_, refl, sym, ap, _∙_}
-use mathlib.Core.Logic.{_≢_}
-use mathlib.Core.Bool.{true, false}
+use mathlib.Core.Bool.{true}
 use mathlib.Core.List.{List, [], _∷_}
-use lib.Dec.{leb, eqb}
-use borrow.Author.Tests.{leb-true, eqb-false}
+use lib.Dec.{leb}
+use borrow.Author.Tests.{leb-true}
 use types.Run.{OneOf, miss}
 use denote.Enum.Declared.{tagOf}
 use Rattle.formats.proofs.Checks.{both-true}
@@ -30,10 +29,6 @@ use Rattle.running.proofs.Steps.{loop-over}
 
 pub counter-range : (c : ℕ) → isCounter c ≡ true → (1 ≤ c) × (c ≤ 4)
 counter-range c e = let p = both-true (leb 1 c) (leb c 4) e in (leb-true 1 c (p .0), leb-true c 4 (p .1))
-
--- a counter that is not free counts at least one round
-pub not-free : (count : ℕ) → eqb count 0 ≡ false → 0 < count
-not-free count e = let ne : count ≢ 0 = eqb-false count 0 e in omega arith
 
 pub for-counter : (p : List ℕ) (k : ℕ) {c n : ℕ} → lineAt p k ≡ For c n → isCounter c ≡ true
 for-counter p k e = (rw e at (line-ranged p k)) .range .0

@@ -4,7 +4,8 @@ use mathlib.Core.Path.{sym, _∙_}
 use Prim.Native.Nat.{_-_}
 use native.Mathlib.Omega.{arith}
 use borrow.Author.Tests.{lt-ltb, le-ltb}
-use Rattle.running.proofs.Turns.{counter-range, not-free}
+use Rattle.running.proofs.Ways.{above-zero}
+use Rattle.running.proofs.Turns.{counter-range}
 use Rattle.running.specs.Running.{runLine}
 use borrow.Author.Needs.{needs}
 use Rattle.running.proofs.Run.run_next.Statement.{statement}
@@ -31,7 +32,7 @@ element-copy-out-held c = omega (arith, counter-range (c .before .before .args .
 
 sub-left : tie.Need-sub-left
 sub-left c =
-    not-free _ (sym (c .before .before .before .is-free .ensures) ∙ c .before .before .if1 .left)
+    above-zero _ (sym (c .before .before .before .is-free .ensures) ∙ c .before .before .if1 .left)
 
 mul-t20 : tie.Need-mul-t20
 mul-t20 c = search needs
