@@ -2,8 +2,8 @@
  *
  * Link with target/staticlib/libnizhalepu.a (x86-64), which `rt staticlib nizhalepu` proves and makes; all
  * that it needs of a C library is memcpy. The rules are those of document 01 and of document 02, items 1 (the
- * log as text) and 2 (a loop of none); the Rattle source of these calls, with their contracts, is
- * crates/nizhalepu/src/lib.rt.
+ * log as text), 2 (a loop of none) and 3 (why a special command was not taken); the Rattle source of these
+ * calls, with their contracts, is crates/nizhalepu/src/lib.rt.
  *
  * Who owns what. The caller owns the record and every area. The library keeps no pointer, allocates
  * nothing, has no data of its own but constants and calls nothing back; each call ends.
@@ -52,6 +52,23 @@ enum {
     NIZHALEPU_LAST_TICK = 33,       /* the tick count is already 4,294,967,295 */
     NIZHALEPU_BAD_BUTTON = 34,      /* button number other than 1 or 2 */
     NIZHALEPU_SHORT_DESTINATION = 35 /* destination shorter than the records held */
+};
+
+/* ---- errors on the wire: the number in a reply of E, three digits and 13, and what an operator does about
+ * it. The command has changed nothing but that its characters are gone. Where several apply, the first in
+ * the order of document 01's checks is told. */
+
+enum {
+    NIZHALEPU_E_SHORT = 1,             /* fewer than three characters: send it again */
+    NIZHALEPU_E_FORM = 2,              /* no such command, or characters left over or missing: correct it */
+    NIZHALEPU_E_DATA = 3,              /* data not in their format, or no such code: correct them */
+    NIZHALEPU_E_ADDRESS = 4,           /* no such address, or one that is only read: correct it */
+    NIZHALEPU_E_LOCKED = 5,            /* a line or an output while a program runs or is paused: let it end, or stop it by 001 */
+    /* at address 210, and nowhere else */
+    NIZHALEPU_E_NEEDS_STOP = 20,       /* 003, 005-008 while a program runs or is paused: likewise; a paused one that is to go on: 004 */
+    NIZHALEPU_E_NEEDS_PAUSE = 21,      /* 004, and none is paused: nothing, if one runs; else start it, if it is to run */
+    NIZHALEPU_E_NOTHING_TO_PAUSE = 22, /* 002, and none runs: read 211 and 212 for where and how the last one stopped */
+    NIZHALEPU_E_OUT_OF_REACH = 23      /* 209 is above 199 for 005, above 200 for 006: write 209 and send it again */
 };
 
 /* ---- the record: 120 bytes. Its fields are the library's; host/layout.c holds them to the archive. */

@@ -9,7 +9,7 @@
 #include "box.h"
 
 /*
- * DAMAGE 0 is the box and the reader of its log; 1 to 10 and 18 to 22 give the box, 11 to 17 the reader one known error each, to see
+ * DAMAGE 0 is the box and the reader of its log; 1 to 10 and 18 to 26 give the box, 11 to 17 the reader one known error each, to see
  * that a comparison finds it.
  */
 #ifndef DAMAGE
@@ -56,12 +56,17 @@ enum { /* error replies; 0 is no error */
     E_FORM = 2,
     E_DATA = 3,
     E_ADDRESS = 4,
-    E_FORBIDDEN = 5
+    E_LOCKED = 5,
+    /* 02, item 3: at address 210 */
+    E_NEEDS_STOP = 20,
+    E_NEEDS_PAUSE = 21,
+    E_NOTHING_TO_PAUSE = 22,
+    E_OUT_OF_REACH = 23
 };
 
 enum { CAUSE_SINGLE = 254, CAUSE_WRITE = 255 }; /* other causes are line numbers */
 
-enum { STOPPED, PAUSED, RUNNING }; /* Stop, Pause, Auto: the columns of the special commands */
+enum { STOPPED, PAUSED, RUNNING }; /* Stop, Pause, Auto */
 
 struct box {
     uint32_t outputs;             /* output n is bit n-1 */

@@ -235,27 +235,66 @@ static void execute_one(struct box *box, const uint8_t *program, uint8_t *log)
         box_set_outputs(box, line.outputs, CAUSE_SINGLE, log);
 }
 
-/* Check 7 and the command itself. 210 shows the last one accepted, also one that had nothing to do. */
-unsigned box_special_command(struct box *box, unsigned code, const struct lent *lent, uint16_t *lines)
+/*
+ * Why the state forbids a command, 0 if it does not. 001 is always taken, 002 if there is a program to pause, 004 in a pause; all others
+ * are for a program that is stopped.
+ */
+static unsigned state_forbids(unsigned mode, unsigned code)
 {
-    static const bool allowed[8][3] = {
-        /* Stop, Pause, Auto */
-        {true, true, true},
-        {false, true, true},
-        {true, false, false},
-        {false, true, false},
-        {true, false, false},
-        {true, false, false},
-        {true, false, false},
-        {true, false, false},
-    };
+    switch (code) {
+    case 1:
+        return 0;
+    case 2:
+#if DAMAGE == 25
+        return mode == STOPPED ? E_LOCKED : 0;
+#else
+        return mode == STOPPED ? E_NOTHING_TO_PAUSE : 0;
+#endif
+    case 4:
+#if DAMAGE == 23
+        if (mode == STOPPED)
+            return E_NEEDS_STOP;
+#endif
+        return mode == PAUSED ? 0 : E_NEEDS_PAUSE;
+    default:
+        return mode == STOPPED ? 0 : E_NEEDS_STOP;
+    }
+}
 
+/* 005 starts at a line of the program, 006 executes one of those or the single command; the others look at no parameter. */
+static unsigned reach_forbids(unsigned parameter, unsigned code)
+{
+    if ((code == 5 && parameter >= LINES) || (code == 6 && parameter > SINGLE))
+#if DAMAGE == 26
+        return E_ADDRESS;
+#else
+        return E_OUT_OF_REACH;
+#endif
+    return 0;
+}
+
+/* Check 7: the code, the state, the parameter. */
+static unsigned not_taken(const struct box *box, unsigned code)
+{
     if (code < 1 || code > 8)
         return E_DATA;
-    if (!allowed[code - 1][box->mode])
-        return E_FORBIDDEN;
-    if ((code == 5 && box->parameter >= LINES) || (code == 6 && box->parameter > SINGLE))
-        return E_ADDRESS;
+
+    const unsigned state = state_forbids(box->mode, code);
+    const unsigned reach = reach_forbids(box->parameter, code);
+#if DAMAGE == 24
+    return reach != 0 ? reach : state;
+#else
+    return state != 0 ? state : reach;
+#endif
+}
+
+/* A special command. 210 shows the last one accepted, also one that had nothing to do. */
+unsigned box_special_command(struct box *box, unsigned code, const struct lent *lent, uint16_t *lines)
+{
+    const unsigned error = not_taken(box, code);
+
+    if (error != 0)
+        return error;
     box->special = (uint8_t)code;
     switch (code) {
     case 1: /* raises no event; when stopped the loops are free already */

@@ -263,7 +263,7 @@ static unsigned take_apart(const struct box *box, struct command *command)
 }
 
 /* Check 4: while running or paused only 209 and 210 are written. */
-static bool write_forbidden(const struct box *box, unsigned address)
+static bool write_locked(const struct box *box, unsigned address)
 {
 #if DAMAGE == 3
     if (box->mode == PAUSED && address >= V_OUTPUTS_HIGH && address <= V_OUTPUTS_LOW)
@@ -290,7 +290,7 @@ static uint8_t *answer(struct box *box, const struct lent *lent, uint8_t *reply,
         error = E_FORM;
     }
     if (error == 0)
-        error = write_forbidden(box, command.address) ? E_FORBIDDEN : write_variable(box, &command, lent, lines);
+        error = write_locked(box, command.address) ? E_LOCKED : write_variable(box, &command, lent, lines);
     if (error != 0) {
         *reply = 'E';
         return put_decimal(reply + 1, error, 3);

@@ -15,6 +15,9 @@ END_MARK = ("S", 0, 0)
 ALLOWED = {1: (1, 1, 1), 2: (0, 1, 1), 3: (1, 0, 0), 4: (0, 1, 0),
            5: (1, 0, 0), 6: (1, 0, 0), 7: (1, 0, 0), 8: (1, 0, 0)}
 
+# Document 02, item 3: where it is not allowed, the error says what the command needs; then that its parameter is out of reach.
+NEEDS_STOP, NEEDS_PAUSE, NOTHING_TO_PAUSE, OUT_OF_REACH = 20, 21, 22, 23
+
 
 class WireError(Exception):
     """An error reply; the argument is its number."""
@@ -235,8 +238,8 @@ class Box:
     def obey(self, code):
         # The wire, check 7: the code, then the state, then the parameter.
         need(code in ALLOWED, 3)
-        need(ALLOWED[code][self.state], 5)
-        need(self.parameter <= {5: 199, 6: 200}.get(code, 255), 4)
+        need(ALLOWED[code][self.state], {2: NOTHING_TO_PAUSE, 4: NEEDS_PAUSE}.get(code, NEEDS_STOP))
+        need(self.parameter <= {5: 199, 6: 200}.get(code, 255), OUT_OF_REACH)
         self.special = code
         # Special commands: what each does; 006 sets the outputs of a State line only.
         if code == 1:

@@ -8,37 +8,44 @@ from script import END, LONG, box, enter, known, program, say, scenario, stopped
 @scenario
 def special_commands():
     # The table: Stop, Pause, Auto; 210 shows the last accepted one, and a refused one changes nothing.
-    table = {"001": "OK OK OK", "002": "E005 OK OK", "003": "OK E005 E005", "004": "E005 OK E005",
-             "005": "OK E005 E005", "006": "OK E005 E005", "007": "OK E005 E005", "008": "OK E005 E005",
+    # 02, item 3: "E020 needs a stopped program, E021 needs a pause, E022 nothing is running to pause".
+    table = {"001": "OK OK OK", "002": "E022 OK OK", "003": "OK E020 E020", "004": "E021 OK E021",
+             "005": "OK E020 E020", "006": "OK E020 E020", "007": "OK E020 E020", "008": "OK E020 E020",
              "000": "E003 E003 E003", "009": "E003 E003 E003", "255": "E003 E003 E003", "257": "E003 E003 E003"}
+    # "E023 parameter out of reach": of 005 and 006, after the state; the others look at no parameter.
+    beyond = dict(table, **{"005": "E023 E020 E020", "006": "E023 E020 E020"})
     after = {"stopped": {"003": "02", "005": "02"}, "paused": {"001": "00", "004": "02"},
              "running": {"001": "00", "002": "03"}}
     before = {"stopped": ("008", "00"), "paused": ("003", "03"), "running": ("003", "02")}
-    for code, replies in table.items():
-        for state, reply in zip(("stopped", "paused", "running"), replies.split()):
-            known()
-            say("CW210008^", "OK")  # the saved copy keeps its end marks
-            program(LONG)
-            enter(state)
-            last, bits = before[state]
-            say("CW210%s^CR201^CR210^CR212^" % code, "%s %s %s 000" % (
-                reply, after[state].get(code, bits), code if reply == "OK" else last))
-            loaded, lit = (code, state) == ("007", "stopped"), state != "stopped" or code in ("003", "005", "006")
-            say("CR000^CR206^CR211^", "%s %s 000" % (END if loaded else LONG, "FF" if lit else "00"))
-            if code == "008" and state == "stopped":
-                program(END)
-                say("CW210008^", "OK")
+    for parameter, rows in (("000", table), ("255", beyond)):
+        for code, replies in rows.items():
+            for state, reply in zip(("stopped", "paused", "running"), replies.split()):
+                known()
+                say("CW210008^", "OK")  # the saved copy keeps its end marks
+                program(LONG)
+                say("CW209%s^" % parameter, "OK")
+                enter(state)
+                last, bits = before[state]
+                taken = reply == "OK"
+                say("CW210%s^CR201^CR210^CR212^CR209^" % code, "%s %s %s 000 %s" % (
+                    reply, after[state].get(code, bits) if taken else bits, code if taken else last, parameter))
+                loaded = (code, state) == ("007", "stopped")
+                lit = state != "stopped" or (taken and code in ("003", "005", "006"))
+                say("CR000^CR206^CR211^", "%s %s 000" % (END if loaded else LONG, "FF" if lit else "00"))
+                if code == "008" and state == "stopped":
+                    program(END)
+                    say("CW210008^", "OK")
 
 
 @scenario
 def parameter_reach():
-    # "start at parameter, at most 199"; "execute one line, parameter at most 200"; else E004.
+    # "start at parameter, at most 199"; "execute one line, parameter at most 200"; else E023.
     known("S00000000770005", at=199)
     say("CW200S00000000880005^", "OK")
     say("CW209199^CW210006^CR206^CR211^CR201^", "OK OK 77 000 00")
     say("CW209200^CW210006^CR206^CR211^CR201^", "OK OK 88 000 00")
-    say("CW209201^CW210006^CR206^CW209255^CW210006^CR210^", "OK E004 88 OK E004 006")
-    say("CW210005^CW209201^CW210005^CW209200^CW210005^CR201^CR210^", "E004 OK E004 OK E004 00 006")
+    say("CW209201^CW210006^CR206^CW209255^CW210006^CR210^", "OK E023 88 OK E023 006")
+    say("CW210005^CW209201^CW210005^CW209200^CW210005^CR201^CR210^", "E023 OK E023 OK E023 00 006")
     say("CW209199^CW210005^CR201^CR206^CR211^", "OK OK 02 77 199")
     say("####CR201^#", "02")
     stopped_by(9, 199)
@@ -299,7 +306,7 @@ def pauses():
     # Traffic, refused commands and writes to 209 between ticks move nothing.
     known("S00000000010003", END)
     say("!#CR217^CW209005^CW210003^CW000N1^#CR206^" + "X" * 40 + "^CW210005^CR206^#CR206^CR212^",
-        "E004 OK E005 E005 01 E002 E005 01 00 011")
+        "E004 OK E020 E005 01 E002 E020 01 00 011")
 
 
 @scenario

@@ -215,7 +215,7 @@ def load_and_save():
     alter(SAVED, 0, " ".join(["00" * 8] * 6))
     alter(SAVED, 1592, "00" * 8)
     press(1)
-    say("CW210007", "E005")
+    say("CW210007", "E020")
     fresh()
     stands(PROGRAM, 0, END * 200 + GUARD)
 

@@ -97,14 +97,37 @@ def order_of_checks():
     say("CW000X^CW0000^CW000XXXXXXXXXXXXXXXX^", "E003 E003 E003")  # another first character
     say("CW203^CW203G^CW203GGG^CW209XX^CW2099999^CW210^CW21099^CW2100003^", " ".join(["E002"] * 8))
     say("CR000X^CR2060^CR212000^CRI0^", "E002 E002 E002 E002")
-    say("CW209255^CW210009^CW210005^CW210002^CW210004^", "OK E003 E004 E005 E005")  # 7: code, state, parameter
+    say("CW209255^CW210009^CW210005^CW210002^CW210004^", "OK E003 E023 E022 E021")  # 7: code, state, parameter
     for into in ("CW210003^", "CW210002^"):  # running, then paused
         say(into, "OK")
         say("CW217^CW201^CW202ZZ^CW216S^", "E004 E004 E004 E004")  # 3 before 4
         say("CW000^CW000X^CW200F50000^CW203^CW206GG^CW199SS^", " ".join(["E005"] * 6))  # 4 before 5 and 6
         say("CW210^CW2100^CW210XXX^CW210256^CW210009^CW210000^", "E002 E002 E003 E003 E003 E003")
-        say("CW210005^CW210006^CW210003^CW210008^", "E005 E005 E005 E005")  # state before parameter
+        say("CW210ABC^CW210005^CW210006^CW210003^CW210008^", "E003 E020 E020 E020 E020")  # state before parameter
         say("CW209^CW209256^CW20900^CW209255^CR209^", "E002 E003 E002 OK 255")
+
+
+@scenario
+def why_not_taken():
+    # 02, item 3: 005 and 006 at the edges of their parameters, in each state; 210 named by I after 209.
+    for state in ("stopped", "paused", "running"):
+        for code, most in (("005", 199), ("006", 200)):
+            for parameter in (most, most + 1, 255):
+                known(LONG)
+                enter(state)
+                reply = "E020" if state != "stopped" else "OK" if parameter == most else "E023"
+                say("CW209%03d^CWI%s^CR209^" % (parameter, code), "OK %s %03d" % (reply, parameter))
+    # Only there: a line or an output that is locked stays E005, an address out of reach E004, by digits and by I and D.
+    known(LONG)
+    say("CW209255^CWI006^CWI005^CWI000^CWD008^", "OK E023 E023 E003 E004")
+    say("CW210003^CW199N1^CWI003^CW206AA^CW211003^CW217003^CW209100^CWI003^CWI004^CWI009^",
+        "OK E005 E004 E005 E004 E004 OK E020 E021 E003")
+    say("CWI002^CWI003^CWD100^CWI007^CWI004^CWI003^CW005N1^CR209^CR210^", "OK E004 OK E020 OK E004 E005 100 004")
+    # 002 and 004 with nothing running, also after an end mark, a stop by button and 001.
+    known()
+    say("CW210002^CW210004^CW210003^CR212^CW210002^CW210004^", "E022 E021 OK 011 E022 E021")
+    program(LONG)
+    say("!!CR212^CW210002^CW210004^!CW210002^CW210002^CW210001^CW210004^CW210002^CR210^", "010 E022 E021 OK OK OK E021 E022 001")
 
 
 @scenario
@@ -134,7 +157,7 @@ def write_steps():
     say("CW209007^CWD000^CWI001^CWI001^CWD008^CR209^CR210^", "OK E004 OK E004 OK 008 001")
     # A refused special command, or a write refused while running, does not move the address.
     known(LONG)
-    say("CW209201^CW210006^CWI001^CWD000^", "OK E004 OK OK")
+    say("CW209201^CW210006^CWI001^CWD000^", "OK E023 OK OK")
     say("CW000%s^CW209000^CWI003^CW005N1^CWI000^CWD009^CR209^" % LONG, "OK OK OK E005 E004 OK 009")
     say("CW210001^CW005N1^CW210003^CWI N2^CWIN2^CW210001^CWD010^CR209^", "OK OK OK E004 E004 OK OK 010")
     say("CW005N1^!CWIN2^CWDN2^!CWIN3^CR006^CR212^", "OK E005 E005 OK N3 010")

@@ -112,6 +112,11 @@ static int finish(struct calls *calls)
            calls->statistics.calls, seconds);
     printf("%" PRIu64 " logs on both readers: equal in every text and in every byte behind it.\n", calls->lists.read);
     bool met = statistics_print(&calls->statistics);
+    if (calls->statistics.astray > 0) {
+        printf("\nASTRAY: %" PRIu64 " replies, alike of both boxes, are errors that no paper has, or to special commands and not those above.\n",
+               calls->statistics.astray);
+        return 1;
+    }
     if (met || calls->calls < ENOUGH) return 0;
     puts("\nNEVER MET: a class above shows 0 (or not all addresses), so this run has not shown what it claims.");
     return 1;

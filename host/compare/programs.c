@@ -232,9 +232,10 @@ static void meddle(struct maker *maker)
         break;
     case 3:
     case 4:
+        if (chance_one_in(chance, 4)) say(maker, UNDAMAGED, "CW209%03u", chance_between(chance, 198, 202));
         say(maker, UNDAMAGED, "CW210%s", specials[chance_below(chance, 9)]);
         break;
-    case 5: /* forbidden while running or paused */
+    case 5: /* locked while a program runs or is paused */
         say(maker, 20, "CW%03u%02X", chance_between(chance, 203, 206), chance_below(chance, 256));
         break;
     case 6:

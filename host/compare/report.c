@@ -48,40 +48,60 @@ static bool print_addresses(const char *name, const uint64_t counts[ADDRESSES], 
 
 static bool print_replies(const struct statistics *statistics)
 {
-    static const char *const errors[ERRORS] = {"",          "E001 too short", "E002 form",
-                                               "E003 data", "E004 address",   "E005 forbidden now"};
+    static const char *const errors[ERRORS] = {
+        [NIZHALEPU_E_SHORT] = "E001 too short",
+        [NIZHALEPU_E_FORM] = "E002 form",
+        [NIZHALEPU_E_DATA] = "E003 data",
+        [NIZHALEPU_E_ADDRESS] = "E004 address",
+        [NIZHALEPU_E_LOCKED] = "E005 locked: a program runs or is paused",
+        [NIZHALEPU_E_NEEDS_STOP] = "E020 needs a stopped program",
+        [NIZHALEPU_E_NEEDS_PAUSE] = "E021 needs a pause",
+        [NIZHALEPU_E_NOTHING_TO_PAUSE] = "E022 nothing is running to pause",
+        [NIZHALEPU_E_OUT_OF_REACH] = "E023 parameter out of reach",
+    };
     bool met = true;
     puts("\n  replies");
     met &= class("OK", statistics->accepted_writes);
     met &= class("data", statistics->data);
-    for (int e = 1; e < ERRORS; e++) met &= class(errors[e], statistics->errors[e]);
+    for (int e = 1; e < ERRORS; e++)
+        if (errors[e] != NULL) met &= class(errors[e], statistics->errors[e]);
     met &= print_addresses("addresses read, of 217", statistics->reads, 217);
     met &= print_addresses("addresses written, of 207", statistics->writes, 207);
     return met;
 }
 
+/* A special command in the three states, with what is due to it. */
+static bool print_special(const struct statistics *statistics, const char *name, int code, int reach)
+{
+    bool met = true;
+    printf("  %-28s", name);
+    for (int s = 0; s < STATES; s++) {
+        char due[5] = "OK";
+        unsigned error = statistics_due((unsigned)code, (unsigned)s, (unsigned)reach);
+        if (error != 0) snprintf(due, sizeof due, "E%03u", error % 1000);
+        printf("%9" PRIu64 " %-4s", statistics->special[code][s][reach], due);
+        met = met && statistics->special[code][s][reach] > 0;
+    }
+    putchar('\n');
+    return met;
+}
+
 static bool print_specials(const struct statistics *statistics)
 {
-    static const char *const names[CODES] = {"",
-                                             "001 stop",
-                                             "002 pause",
-                                             "003 start at 000",
-                                             "004 continue",
-                                             "005 start at parameter",
-                                             "006 execute one line",
-                                             "007 load",
-                                             "008 save"};
-    static const char allowed[CODES][STATES + 1] = {"", "111", "011", "100", "010", "100", "100", "100", "100"};
+    static const char *const names[CODES][REACHES] = {{NULL},
+                                                      {"001 stop"},
+                                                      {"002 pause"},
+                                                      {"003 start at 000"},
+                                                      {"004 continue"},
+                                                      {"005 start at parameter", "005, parameter above 199"},
+                                                      {"006 execute one line", "006, parameter above 200"},
+                                                      {"007 load"},
+                                                      {"008 save"}};
     bool met = true;
     printf("\n  %-28s%14s%14s%14s\n", "special commands", "stopped", "paused", "running");
-    for (int c = 1; c < CODES; c++) {
-        printf("  %-28s", names[c]);
-        for (int s = 0; s < STATES; s++) {
-            printf("%9" PRIu64 " %s", statistics->special[c][s], allowed[c][s] == '1' ? "OK  " : "E005");
-            met = met && statistics->special[c][s] > 0;
-        }
-        putchar('\n');
-    }
+    for (int c = 1; c < CODES; c++)
+        for (int reach = 0; reach < REACHES; reach++)
+            if (names[c][reach] != NULL) met &= print_special(statistics, names[c][reach], c, reach);
     return met;
 }
 

@@ -33,15 +33,42 @@ static unsigned state(const struct statistics *statistics)
     return !statistics->before.run.on ? 0 : statistics->before.paused ? 1 : 2;
 }
 
-/* A special command that was done or forbidden: its code stands at the end. */
-static void count_special(struct statistics *statistics)
+/* The errors of the wire: 01's, and those of 02, item 3. */
+static bool is_error(unsigned number)
+{
+    return (number >= NIZHALEPU_E_SHORT && number <= NIZHALEPU_E_LOCKED) ||
+           (number >= NIZHALEPU_E_NEEDS_STOP && number <= NIZHALEPU_E_OUT_OF_REACH);
+}
+
+/* 01's table, and 02, item 3: 001 always, 002 if a program runs, 004 in a pause, the others if none runs, and then the parameter. */
+unsigned statistics_due(unsigned code, unsigned state, unsigned out_of_reach)
+{
+    static const unsigned due[CODES][STATES] = {
+        [2] = {NIZHALEPU_E_NOTHING_TO_PAUSE, 0, 0},
+        [3] = {0, NIZHALEPU_E_NEEDS_STOP, NIZHALEPU_E_NEEDS_STOP},
+        [4] = {NIZHALEPU_E_NEEDS_PAUSE, 0, NIZHALEPU_E_NEEDS_PAUSE},
+        [5] = {0, NIZHALEPU_E_NEEDS_STOP, NIZHALEPU_E_NEEDS_STOP},
+        [6] = {0, NIZHALEPU_E_NEEDS_STOP, NIZHALEPU_E_NEEDS_STOP},
+        [7] = {0, NIZHALEPU_E_NEEDS_STOP, NIZHALEPU_E_NEEDS_STOP},
+        [8] = {0, NIZHALEPU_E_NEEDS_STOP, NIZHALEPU_E_NEEDS_STOP},
+    };
+    return due[code][state] == 0 && out_of_reach ? NIZHALEPU_E_OUT_OF_REACH : due[code][state];
+}
+
+/* A special command, its code at the end, that was done (0) or answered with an error. */
+static void count_special(struct statistics *statistics, unsigned error)
 {
     const uint8_t *c = statistics->characters;
     unsigned code = c[statistics->count - 1] - (unsigned)'0';
     bool address_of_three = isdigit(c[2]);
-    if (statistics->count != (address_of_three ? 8u : 6u)) return;
+    if (c[0] != 'C' || c[1] != 'W' || statistics->count != (address_of_three ? 8u : 6u)) return;
     if (c[statistics->count - 2] != '0' || c[statistics->count - 3] != '0' || code == 0 || code >= CODES) return;
-    statistics->special[code][state(statistics)]++;
+    unsigned parameter = statistics->before.panel.parameter, now = state(statistics);
+    unsigned out = (code == 5 && parameter > 199) || (code == 6 && parameter > 200);
+    if (error == statistics_due(code, now, out))
+        statistics->special[code][now][out]++;
+    else
+        statistics->astray++;
 }
 
 static void count_reply(struct statistics *statistics, const uint8_t *reply, size_t written)
@@ -50,9 +77,12 @@ static void count_reply(struct statistics *statistics, const uint8_t *reply, siz
     unsigned *last = read ? &statistics->last_read : &statistics->last_write;
     unsigned named = address(statistics, *last);
     if (reply[0] == 'E' && written == 5) {
-        unsigned number = reply[3] - (unsigned)'0';
-        if (number < ERRORS) statistics->errors[number]++;
-        if (number == 5 && named == 210) count_special(statistics);
+        unsigned number = (reply[1] - (unsigned)'0') * 100 + (reply[2] - (unsigned)'0') * 10 + reply[3] - (unsigned)'0';
+        if (is_error(number))
+            statistics->errors[number]++;
+        else
+            statistics->astray++;
+        if (!read && named == 210) count_special(statistics, number);
         return;
     }
     if (named >= ADDRESSES) return;
@@ -63,7 +93,7 @@ static void count_reply(struct statistics *statistics, const uint8_t *reply, siz
     } else {
         statistics->accepted_writes++;
         statistics->writes[named]++;
-        if (named == 210) count_special(statistics);
+        if (named == 210) count_special(statistics, 0);
     }
 }
 

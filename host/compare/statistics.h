@@ -4,7 +4,7 @@
 
 #include "both.h"
 
-enum { REFUSALS = 7, ERRORS = 6, CODES = 9, EVENTS = 14, ADDRESSES = 217, STATES = 3 };
+enum { REFUSALS = 7, ERRORS = 24, CODES = 9, EVENTS = 14, ADDRESSES = 217, STATES = 3, REACHES = 2 };
 
 /* what the readers of the log make of one */
 enum listed {
@@ -27,10 +27,12 @@ struct statistics {
     uint64_t calls; /* of the box; alterations are none */
     uint64_t episodes;
     uint64_t met[KINDS][REFUSALS]; /* accepted, 030 to 035; alterations count as accepted */
-    uint64_t errors[ERRORS];
+    uint64_t errors[ERRORS]; /* by number */
     uint64_t accepted_writes;
     uint64_t data;
-    uint64_t special[CODES][STATES]; /* code asked for when stopped, paused, running: done or answered E005 */
+    /* special commands answered as is due: the code, when stopped, paused, running, with the parameter in and out of reach */
+    uint64_t special[CODES][STATES][REACHES];
+    uint64_t astray; /* those answered otherwise, and errors that neither paper has */
     uint64_t ticks[STATES]; /* accepted when stopped, paused, running */
     uint64_t events[EVENTS];
     uint64_t changes;
@@ -55,6 +57,9 @@ struct statistics {
     struct box_nones nones_before;
     struct nizhalepu_record before;
 };
+
+/* What is due to a special command in a state: the error, 0 for OK. */
+unsigned statistics_due(unsigned code, unsigned state, unsigned out_of_reach);
 
 /* Before the first call of an episode. */
 void statistics_begin(struct statistics *statistics);

@@ -90,7 +90,8 @@ def checks_of_a_command():
     for command, reply in (("C", "E001"), ("xr217", "E002"), ("CX217", "E002"), ("CR21", "E002"), ("CR2170", "E004"),
                            ("CR21A", "E004"), ("CR0000", "E002"), ("CW217", "E004"), ("CW201", "E004"), ("CWD", "E004"),
                            ("CW000", "E002"), ("CW000X", "E003"), ("CW000N12", "E002"), ("CW000F0XXXX", "E003"),
-                           ("CW000S01000000000000", "E003"), ("CW209256", "E003"), ("CW210009", "E003"), ("CW210002", "E005")):
+                           ("CW000S01000000000000", "E003"), ("CW209256", "E003"), ("CW210009", "E003"), ("CW210002", "E022"),
+                           ("CW210004", "E021")):
         send(command, reply)
     send("CW999" + "0" * 27, "E004")  # 32 characters
     send("CW999" + "0" * 28, "E002")  # a 33rd: overlong comes before the address
@@ -105,7 +106,7 @@ def checks_of_a_command():
     send("CW217", "E004")
     send("CW000", "E005")
     send("CW209007", "OK")
-    send("CW210007", "E005")
+    send("CW210007", "E020")
     send("CW210001", "OK")
     empty(change(0, 0, 1))
 
@@ -181,7 +182,7 @@ def points_of_special_commands():
     send("CW210006", "OK")
     send("CR203", "FF")
     send("CR210", "006")
-    send("CW210005", "E004")
+    send("CW210005", "E023")
     send("CR210", "006")
     empty(change(254, 0, 0xFF000001))
     send("CW000S00000000070002", "OK")
@@ -190,7 +191,9 @@ def points_of_special_commands():
     press(2)
     send("CR201", "83")
     send("CW20600", "E005")
-    send("CW210003", "E005")
+    send("CW210003", "E020")
+    send("CW209200", "OK")
+    send("CWI005", "E020")  # 210; its parameter is out of reach, which is a later check
     line("ticks 1000 1600 24", "0 0")  # paused: none counts
     send("CW210004", "OK")
     tick()

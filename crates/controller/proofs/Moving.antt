@@ -3,8 +3,7 @@
 use mathlib.Core.Path.{_≡_, refl, sym, _∙_}
 use mathlib.Core.Logic.{_≢_}
 use Prim.Native.Nat.{ℕ, _+_}
-use native.Mathlib.Omega.{arith}
-use mathlib.Core.Bool.{Bool, true, false, not, _&&_, true≢false}
+use mathlib.Core.Bool.{true, false, not, _&&_, true≢false}
 use mathlib.Core.List.{List}
 use mathlib.Core.Option.{none, some}
 use lib.Dec.{eqb}
@@ -13,14 +12,14 @@ use Rattle.formats.specs.Checks.{if_then_else_, Res, refused, passed, Ok}
 use Rattle.formats.proofs.Checks.{if-case, not-some}
 use Rattle.running.specs.declared.Ran.{Ran}
 use Rattle.running.specs.Running.{start, tick}
-use Rattle.special.specs.declared.Mode as M
 use Rattle.special.specs.declared.Special.{Special}
 use Rattle.special.specs.declared.Special.the-variants.{Stop, Pause, Start, Continue, StartAt, Execute, Load, Save}
 use Rattle.wire.specs.declared.Data.{Data}
 use Rattle.wire.specs.declared.Data.the-variants.{WriteLine, WriteOutputs, WriteParameter, WriteSpecial}
 use Rattle.wire.specs.declared.Asked.{Asked}
 use Rattle.wire.specs.declared.Asked.the-variants.{Read, Write}
-use Rattle.special.specs.Special.{modeOf, codeOf}
+use Rattle.special.specs.Special.{codeOf}
+use Rattle.special.proofs.Quiet.{runs-mode}
 use Rattle.wire.proofs.Quiet.{quiet, command-quiet}
 use Rattle.controller.specs.declared.Controller.{Controller}
 use Rattle.controller.specs.Controller.{withSpecial, withTicks, mode, Areas}
@@ -56,12 +55,6 @@ quiet-leaves (passed (Write k (WriteSpecial StartAt))) q ne = absurd (true≢fal
 quiet-leaves (passed (Write k (WriteSpecial Execute))) q ne = absurd (true≢false (sym q))
 quiet-leaves (passed (Write k (WriteSpecial Load))) q ne = absurd (true≢false (sym q))
 quiet-leaves (passed (Write k (WriteSpecial Save))) q ne = absurd (true≢false (sym q))
-
--- a program that runs, paused or not, is not stopped
-runs-mode : (on paused : Bool) → on ≡ true → modeOf on paused ≢ M.the-variants.Stop
-runs-mode true true e z = let n : _≡_ {A = ℕ} 0 1 = cc in omega arith
-runs-mode true false e z = let n : _≡_ {A = ℕ} 0 2 = cc in omega arith
-runs-mode false paused e z = absurd (true≢false (sym e))
 
 -- a byte while a program runs, if it does not end the command stop
 pub byte-same : (x : ℕ) (c : Controller) (a : Areas) → c .run .on ≡ true → specialCode (finished (byte x) c) ≢ 1 → Same c a (does (byte x) c a)

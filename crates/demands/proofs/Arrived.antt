@@ -13,12 +13,21 @@ use Rattle.lines.specs.declared.Line.{Line}
 use Rattle.lines.specs.declared.Line.the-variants.{State, For, Next}
 use Rattle.texts.specs.Text.{lineText}
 use Rattle.wire.specs.Collecting.{mostChars, capital, sent}
+use Rattle.wire.specs.Command.{command, commandIn}
 use Rattle.wire.specs.Naming.{Names, byDigits, byI, byD}
 use Rattle.controller.specs.declared.Controller.{Controller}
+use Rattle.controller.specs.Deeds.{asked}
 use Rattle.demands.specs.Told.{Told}
 use Rattle.demands.specs.ReadBack.{Arrives}
+use Rattle.demands.specs.Replies.{commandOf}
 use Rattle.demands.proofs.Collects.{sent-whole}
 use Rattle.demands.proofs.Agrees.{Agrees}
+
+-- what byte 13 finds is what the history says
+pub asked-as-told : (t : Told) (c : Controller) → Agrees t c → asked c ≡ commandOf t
+unfolding command commandIn commandOf sent
+asked-as-told t c g =
+    rw (g .wire .received .first, g .wire .received .more, g .wire .nextRead, g .wire .nextWrite, g .panel .parameter, g .run, g .paused)
 
 module _ (t : Told) (c : Controller) (g : Agrees t c) (command : List ℕ) (arrived : Arrives t command) where
   -- one of at most 32 characters is not overlong
@@ -32,7 +41,7 @@ module _ (t : Told) (c : Controller) (g : Agrees t c) (command : List ℕ) (arri
   arrives-sent short = sent-whole (t .received) (c .wire) (g .wire .received) short ∙ arrived
 
 -- an address takes at most three characters, a line at most fifteen
-named-length : {next k : ℕ} {a : List ℕ} → Names next k a → length a ≤ 3
+pub named-length : {next k : ℕ} {a : List ℕ} → Names next k a → length a ≤ 3
 unfolding text
 named-length {k} (byDigits e) = rw (e, length-shown 10 3 k) (omega arith)
 named-length (byI e n) = rw e (omega arith)

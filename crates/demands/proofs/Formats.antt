@@ -6,13 +6,13 @@ use Prim.Native.Char.{code}
 use native.Mathlib.Omega.{arith}
 use mathlib.Core.Bool.{Bool, true, false, _&&_, true≢false}
 use mathlib.Core.List.{List, [], _∷_}
-use lib.ListN.{length, getD, length-append}
+use lib.ListN.{length, getD, take, drop, length-append}
 use lib.Dec.{eqb, leb}
 use borrow.Author.Tests.{eq-eqb, ne-eqb, eqb-true, eqb-false, leb-true, leb-false}
-use Rattle.formats.specs.Checks.{text, all}
-use Rattle.formats.specs.Digits.{isDigit, shown, h, d, errorText}
-use Rattle.formats.proofs.Checks.{if-case, both-true, and-false}
-use Rattle.formats.proofs.Characters.{length-shown, shown-digits}
+use Rattle.formats.specs.Checks.{passed, text, all}
+use Rattle.formats.specs.Digits.{isDigit, digits, shown, numberIn, h, d, errorText}
+use Rattle.formats.proofs.Checks.{if-case, both-true, and-false, passed-same}
+use Rattle.formats.proofs.Characters.{length-shown, shown-digits, shown-back}
 use Rattle.lines.specs.declared.Line.{Line}
 use Rattle.lines.specs.declared.Line.the-variants.{State, For, Next}
 use Rattle.lines.specs.Program.{lineAt}
@@ -77,6 +77,13 @@ unfolding errorText text
 error-is-error e =
     let l : length (ended (errorText e)) ≡ 5 = simp (length-append, length-shown) in
     ap (λ b. b && true) (eq-eqb (length (ended (errorText e))) 5 l)
+
+-- its number is read off it
+pub error-same : (e e′ : ℕ) → e < 1000 → e′ < 1000 → ended (errorText e) ≡ ended (errorText e′) → e ≡ e′
+unfolding errorText text shown digits
+error-same e e′ lt lt′ f =
+    let back : (v : ℕ) → v < 1000 → numberIn 10 3 (d v) ≡ passed v = λ v small. shown-back 10 (omega arith) (omega arith) 3 3 v small in
+    passed-same (sym (back e lt) ∙ ap (λ cs. numberIn 10 3 (take 3 (drop 1 cs))) f ∙ back e′ lt′)
 
 -- a decimal digit is not the letter E
 digit-not-e : (c : ℕ) → isDigit 10 c ≡ true → eqb c (code "E") ≡ false

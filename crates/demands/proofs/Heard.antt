@@ -75,7 +75,7 @@ module _ (h : Held) (a : Areas) (t : Told) (g : Agrees t (h .state)) (i : Invari
   refused-silent e f = rw (reply-is h a ok ∙ ap (λ r. replyOf r (h .state) a) f, error-is-error e)
 
   -- no other reply looks like one
-  reply-no-error : (q : Asked) → asked (h .state) ≡ passed q → isError (reply (seenOf (outcome h (ending a)))) ≡ false
+  pub reply-no-error : (q : Asked) → asked (h .state) ≡ passed q → isError (reply (seenOf (outcome h (ending a)))) ≡ false
   reply-no-error (Read k) f =
       let le : k ≤ 216 = ok-at (Sound (mode (h .state)) (h .state .panel .parameter)) (asked-sound _ _ (h .state .wire) (i .wire)) f in
       ap isError (reply-is h a ok ∙ ap (λ r. replyOf r (h .state) a) f) ∙ format-no-error k _ (value-in-format _ _ _ (a .program) k le)

@@ -29,3 +29,6 @@ pub mod Switched
 pub mod OneByte
 pub mod MadeByCalls
 pub mod Exactly
+pub mod Due
+pub mod Specials
+pub mod Errors

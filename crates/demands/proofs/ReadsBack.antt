@@ -83,8 +83,8 @@ module _ (h : Held) (t : Told) (g : Agrees t (h .state)) (a : Areas) (k : ℕ) (
       let q = asked-write ok in
       let short = ok-at (Spoken (h .state .wire)) (command-says (h .state .wire) (mode (h .state)) (h .state .panel .parameter)) (q .1) .short in
       let p = ok-at (WritesLine k line)
-      (write-asked (h .state .wire) (mode (h .state)) (h .state .panel .parameter) short k address line inside (arrives-sent t (h .state) g _ arrived short)
-      (rw (g .wire .nextWrite) named)) (q .1) in
+      (write-asked (h .state .wire) (mode (h .state)) (h .state .panel .parameter) short k address line (arrives-sent t (h .state) g _ arrived short)
+      (rw (g .wire .nextWrite) named) inside) (q .1) in
       go (p .line) (q .1 ∙ ap passed (p .writes)) (stepped h (ending a)) (p .sentAs)
     where
       go : (l : Line) → asked (h .state) ≡ passed (Write k (WriteLine l)) → Step h (ending a) → Sent line l

@@ -8,8 +8,6 @@ use mathlib.Core.List.{List, _++_}
 use Rattle.formats.specs.Checks.{Res, refused, passed, text}
 use Rattle.wire.specs.declared.Asked.{Asked}
 use Rattle.wire.specs.declared.Asked.the-variants.{Read, Write}
-use Rattle.wire.specs.Collecting.{sent}
-use Rattle.wire.specs.Command.{command, commandIn}
 use Rattle.wire.specs.Naming.{Names}
 use Rattle.wire.proofs.Commands.{read-asked}
 use Rattle.controller.specs.declared.Controller.{Controller}
@@ -26,15 +24,9 @@ use Rattle.demands.proofs.Formats.{value-in-format}
 use Rattle.demands.proofs.Agrees.{Agrees}
 use Rattle.demands.proofs.Heard.{reply-is}
 use Rattle.demands.proofs.AsTold.{held-as-told}
-use Rattle.demands.proofs.Arrived.{arrives-short, arrives-sent, read-length}
+use Rattle.demands.proofs.Arrived.{asked-as-told, arrives-short, arrives-sent, read-length}
 
 module _ (t : Told) (c : Controller) (g : Agrees t c) where
-  -- what byte 13 finds is what the history says
-  asked-as-told : asked c ≡ commandOf t
-  unfolding command commandIn commandOf sent
-  asked-as-told =
-      rw (g .wire .received .first, g .wire .received .more, g .wire .nextRead, g .wire .nextWrite, g .panel .parameter, g .run, g .paused)
-
   panel-as-told : c .panel ≡ panelOf t
   panel-as-told =
       ap₂ (λ (b : List ℕ × Bool) (n : ℕ × ℕ × ℕ). record { single = b .0; parameter = n .0; special = n .1; event = n .2; unread = b .1 })

@@ -128,7 +128,7 @@ module _ {n w t : ℕ} {h : Held} (r : Ready n w t h) (cs : List Change) where
     stored : Wrote n cs h k (WriteLine (State v 0))
     unfolding write
     stored =
-        sent-write (r .fit) (r .off) (r .empty) k (omega arith) (rw (le-leb k 200 (omega arith))) (lineText (State v 0)) mark-plain mark-short
+        sent-write (r .fit) (r .off) (r .empty) k (rw (le-leb k 200 (omega arith))) (lineText (State v 0)) mark-plain mark-short
         (WriteLine (State v 0)) (line-read M.the-variants.Stop (h .state .panel .parameter) k (State v 0) (omega arith) (fits, omega arith)) cs
         (rw (ne-eqb k 200 (λ e. omega arith)) stored-long) (rw (ne-eqb k 200 (λ e. omega arith)) stored-bytes)
 
@@ -136,7 +136,7 @@ module _ {n w t : ℕ} {h : Held} (r : Ready n w t h) (cs : List Change) where
   named : (v : ℕ) → v ≤ 255 → Wrote n cs h 209 (WriteParameter v)
   unfolding write
   named v le =
-      sent-write (r .fit) (r .off) (r .empty) 209 (omega arith) refl (d v) (shown-plain 10 3 v (omega arith) (omega arith))
+      sent-write (r .fit) (r .off) (r .empty) 209 refl (d v) (shown-plain 10 3 v (omega arith) (omega arith))
       (rw (length-shown 10 3 v) (omega arith)) (WriteParameter v) (parameter-read M.the-variants.Stop (h .state .panel .parameter) v le) cs
       (r .fit .program) (r .fit .programBytes)
 
@@ -144,7 +144,7 @@ module _ {n w t : ℕ} {h : Held} (r : Ready n w t h) (cs : List Change) where
   switched : (k x : ℕ) → 203 ≤ k → k ≤ 206 → x < 256 → Wrote n cs h k (WriteOutputs x)
   unfolding write
   switched k x lo hi lt =
-      sent-write (r .fit) (r .off) (r .empty) k (omega arith)
+      sent-write (r .fit) (r .off) (r .empty) k
       (rw (lt-leb k 200 (omega arith), le-leb 203 k lo, le-leb k 206 hi)) (inHex x) (shown-plain 16 2 x (omega arith) (omega arith))
       (rw (length-shown 16 2 x) (omega arith)) (WriteOutputs x) (outputs-read M.the-variants.Stop (h .state .panel .parameter) k x lo hi lt)
       cs (r .fit .program) (r .fit .programBytes)
@@ -153,7 +153,7 @@ module _ {n w t : ℕ} {h : Held} (r : Ready n w t h) (cs : List Change) where
   started : h .state .panel .parameter ≤ 199 → Wrote n cs h 210 (WriteSpecial StartAt)
   unfolding write special startAt moved forbidden
   started le =
-      sent-write (r .fit) (r .off) (r .empty) 210 (omega arith) refl (d 5) (shown-plain 10 3 5 (omega arith) (omega arith))
+      sent-write (r .fit) (r .off) (r .empty) 210 refl (d 5) (shown-plain 10 3 5 (omega arith) (omega arith))
       (rw (length-shown 10 3 5) (omega arith)) (WriteSpecial StartAt)
       (special-read M.the-variants.Stop (h .state .panel .parameter) StartAt (record { may = refl; reaches = le-leb (h .state .panel .parameter) 199 le }))
       cs (r .fit .program) (r .fit .programBytes)
@@ -161,7 +161,7 @@ module _ {n w t : ℕ} {h : Held} (r : Ready n w t h) (cs : List Change) where
   executed : h .state .panel .parameter ≤ 200 → Wrote n cs h 210 (WriteSpecial Execute)
   unfolding write special forbidden
   executed le =
-      sent-write (r .fit) (r .off) (r .empty) 210 (omega arith) refl (d 6) (shown-plain 10 3 6 (omega arith) (omega arith))
+      sent-write (r .fit) (r .off) (r .empty) 210 refl (d 6) (shown-plain 10 3 6 (omega arith) (omega arith))
       (rw (length-shown 10 3 6) (omega arith)) (WriteSpecial Execute)
       (special-read M.the-variants.Stop (h .state .panel .parameter) Execute (record { may = refl; reaches = le-leb (h .state .panel .parameter) 200 le }))
       cs (r .fit .program) (r .fit .programBytes)

@@ -161,7 +161,7 @@ pub record Wrote (n : ℕ) (cs : List Change) (h : Held) (k : ℕ) (x : Data) : 
   pub empty : Empty (held .state .wire)
   pub fit : Fit n held
 
-module _ {n : ℕ} {h : Held} (f : Fit n h) (off : h .state .run .on ≡ false) (empty : Empty (h .state .wire)) (k : ℕ) (inside : k ≤ 216)
+module _ {n : ℕ} {h : Held} (f : Fit n h) (off : h .state .run .on ≡ false) (empty : Empty (h .state .wire)) (k : ℕ)
     (can : isWritable k ≡ true) (written : List ℕ) (good : all isPlain written ≡ true) (few : length written ≤ 27) (x : Data)
     (says : dataIn M.the-variants.Stop (h .state .panel .parameter) k written ≡ passed x) where
   -- the wire when the characters have been sent
@@ -192,7 +192,7 @@ module _ {n : ℕ} {h : Held} (f : Fit n h) (off : h .state .run .on ≡ false) 
       let short : w .overlong ≡ false = holds .more ∙ le-ltb mostChars (length (writeText k written)) short-text in
       let stop : mode (h .state) ≡ M.the-variants.Stop = rw off in
       let found : sent w ≡ writeText k written = sent-whole (writeText k written) w holds short ∙ plain-capitals (writeText k written) all-plain in
-      data-accepted w (mode (h .state)) (h .state .panel .parameter) k (shown 10 3 k) written x short stop inside can found (byDigits refl) (rw stop says)
+      data-accepted w (mode (h .state)) (h .state .panel .parameter) short k (shown 10 3 k) written found (byDigits refl) can (rw stop) x (rw stop says)
 
   -- byte 13 does what was asked, and answers OK
   is-done : does (byte 13) (g .state) (lentBy g) ≡ writing (ended (text "OK")) (doing h w k x)

@@ -19,3 +19,5 @@ pub mod Lent
 pub mod Leaves
 pub mod LentBytes
 pub mod Sent
+pub mod Specials
+pub mod Errors

@@ -1,14 +1,15 @@
--- 01, 'Special commands' and 'Running', and 02, item 2, computed: every command and button in every state, and every event with what it
+-- 01, 'Special commands' and 'Running', and 02, items 2 and 3, computed: every command and button in every state, and every event with what it
 -- leaves.
 use mathlib.Core.List.{List, [], _∷_}
 use Rattle.demands.specs.Exchanges.{Point, point, _⇒_, _⇒_runs_}
 
 unfoldable pub commands : List Point
 commands =
-    -- Stop: 001, 003, 005, 006, 007, 008 are allowed; 002 and 004 are not, and change nothing
+    -- Stop: 001, 003, 005, 006, 007, 008 are allowed; 002 and 004 are not, and change nothing. "E021 needs a pause, E022 nothing is
+    -- running to pause".
     point (
     "CW000S00000000FF0100^CW005S00000000AA0100^CR212^" ⇒ "OK^OK^012^"
-    ∷ "CW210002^CW210004^CR201^CR210^" ⇒ "E005^E005^00^000^"
+    ∷ "CW210002^CW210004^CR201^CR210^" ⇒ "E022^E021^00^000^"
     -- "001 when stopped [...] accepted and do nothing"
     ∷ "CW210001^CR201^CR210^CR212^CR206^" ⇒ "OK^00^001^000^00^"
     -- "003 start at 000", whatever the parameter; "001 raises no event"
@@ -23,10 +24,10 @@ commands =
     ∷ "CW000N1^CW210007^CR000^CR201^CR210^CR211^CR206^" ⇒ "OK^OK^S00000000FF0100^00^007^005^FF^"
     ∷ []
     )
-    -- Pause: 001, 002 and 004
+    -- Pause: 001, 002 and 004. "E020 needs a stopped program".
     ∷ point (
     "CW000S00000000FF0100^CR212^CW210003^CW210002^CR201^CR210^" ⇒ "OK^012^OK^OK^03^002^"
-    ∷ "CW210003^CW210005^CW210006^CW210007^CW210008^CR201^CR210^" ⇒ "E005^E005^E005^E005^E005^03^002^"
+    ∷ "CW210003^CW210005^CW210006^CW210007^CW210008^CR201^CR210^" ⇒ "E020^E020^E020^E020^E020^03^002^"
     -- "002 when paused [...] accepted and do nothing"
     ∷ "CW210002^CR201^CR210^CR211^CR206^" ⇒ "OK^03^002^000^FF^"
     ∷ "CW210004^CR201^CR210^" ⇒ "OK^02^004^"
@@ -38,7 +39,7 @@ commands =
     -- Auto: 001 and 002
     ∷ point (
     "CW000S00000000FF0100^CR212^CW210003^" ⇒ "OK^012^OK^"
-    ∷ "CW210003^CW210004^CW210005^CW210006^CW210007^CW210008^CR201^CR210^" ⇒ "E005^E005^E005^E005^E005^E005^02^003^"
+    ∷ "CW210003^CW210004^CW210005^CW210006^CW210007^CW210008^CR201^CR210^" ⇒ "E020^E021^E020^E020^E020^E020^02^003^"
     ∷ "CW210002^CR201^CW210004^CR201^CW210001^CR201^CR212^" ⇒ "OK^03^OK^02^OK^00^000^"
     ∷ []
     )

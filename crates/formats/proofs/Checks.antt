@@ -20,6 +20,11 @@ pub if-case {ℓ} : {A : Type ℓ} (P : A → Type 0) (t : Bool) {x y : A} → (
 if-case P true f g = f refl
 if-case P false f g = g refl
 
+-- two choices by one test
+pub if-two : {A B : Type 0} (R : A → B → Type 0) (t : Bool) {x y : A} {x′ y′ : B} → R x x′ → R y y′ → R (if t then x else y) (if t then x′ else y′)
+if-two R true p q = p
+if-two R false p q = q
+
 -- the branch that a test takes
 pub if-true : {A : Type 0} (t : Bool) (x y : A) → t ≡ true → x ≡ (if t then x else y)
 if-true t x y e = ap (λ u. if u then x else y) (sym e)
@@ -158,6 +163,30 @@ module _ {B : Type 0} (P : B → Type 0) where
   unfolding _>>_ _orElse_
   ok-guard true e r k = k refl
   ok-guard false e r k = tt
+
+-- what holds of the number, where the check refuses
+abbrev pub Err : {A : Type 0} → (ℕ → Type 0) → Res A → Type 0
+Err P (refused e) = P e
+Err P (passed a) = Unit
+
+pub err-at : {A : Type 0} (P : ℕ → Type 0) {r : Res A} {e : ℕ} → Err P r → r ≡ refused e → P e
+err-at P err f = rw f at err
+
+module _ {B : Type 0} (P : ℕ → Type 0) where
+  -- the number is known by its equation
+  pub err-known : (r : Res B) → ((e : ℕ) → r ≡ refused e → P e) → Err P r
+  err-known (refused e) k = k e refl
+  err-known (passed a) k = tt
+
+  pub err-bind : {A : Type 0} (m : Res A) (f : A → Res B) → Err P m → ((a : A) → m ≡ passed a → Err P (f a)) → Err P (m >>= f)
+  unfolding _>>=_
+  err-bind (refused e) f h k = h
+  err-bind (passed a) f h k = k a refl
+
+  pub err-guard : (t : Bool) (e : ℕ) (r : Res B) → (t ≡ false → P e) → (t ≡ true → Err P r) → Err P ((t orElse e) >> r)
+  unfolding _>>_ _orElse_
+  err-guard true e r h k = k refl
+  err-guard false e r h k = h refl
 
 -- a check that refuses does not pass
 pub not-passed : {A : Type 0} {e : ℕ} {a : A} → refused e ≡ passed a → ⊥

@@ -4,8 +4,8 @@ use mathlib.Core.Path.{_≡_, refl, sym}
 use Prim.Native.Nat.{ℕ, _≤_}
 use lib.Dec.{lit≤, eqb}
 use borrow.Author.Tests.{eqb-true}
-use Rattle.formats.specs.Checks.{Res, passed, Ok}
-use Rattle.formats.proofs.Checks.{if-case}
+use Rattle.formats.specs.Checks.{Res, refused, passed, Ok}
+use Rattle.formats.proofs.Checks.{if-case, Err}
 use Rattle.special.specs.declared.Special.{Special}
 use Rattle.special.specs.declared.Special.the-variants.{Stop, Pause, Start, Continue, StartAt, Execute, Load, Save}
 use Rattle.special.specs.Special.{codeOf, specialOf}
@@ -43,12 +43,18 @@ code-back Execute = refl
 code-back Load = refl
 code-back Save = refl
 
+-- a number names the command whose code it is, or is refused with 3
+pub code-cases : (P : Res Special → Type 0) (n : ℕ) → ((s : Special) → codeOf s ≡ n → P (passed s)) → P (refused 3) → P (specialOf n)
+unfolding specialOf
+code-cases P n named none =
+    if-case P (eqb n 1) (λ e. named Stop (sym (eqb-true n 1 e))) λ _. if-case P (eqb n 2) (λ e. named Pause (sym (eqb-true n 2 e))) λ _.
+    if-case P (eqb n 3) (λ e. named Start (sym (eqb-true n 3 e))) λ _. if-case P (eqb n 4) (λ e. named Continue (sym (eqb-true n 4 e))) λ _.
+    if-case P (eqb n 5) (λ e. named StartAt (sym (eqb-true n 5 e))) λ _. if-case P (eqb n 6) (λ e. named Execute (sym (eqb-true n 6 e))) λ _.
+    if-case P (eqb n 7) (λ e. named Load (sym (eqb-true n 7 e))) λ _. if-case P (eqb n 8) (λ e. named Save (sym (eqb-true n 8 e))) λ _. none
+
 -- what a code names has that code
 pub code-named : (n : ℕ) → Ok (λ s. codeOf s ≡ n) (specialOf n)
-unfolding specialOf
-code-named n =
-    let P : Res Special → Type 0 = Ok (λ s. codeOf s ≡ n) in
-    if-case P (eqb n 1) (λ e. sym (eqb-true n 1 e)) λ _. if-case P (eqb n 2) (λ e. sym (eqb-true n 2 e)) λ _.
-    if-case P (eqb n 3) (λ e. sym (eqb-true n 3 e)) λ _. if-case P (eqb n 4) (λ e. sym (eqb-true n 4 e)) λ _.
-    if-case P (eqb n 5) (λ e. sym (eqb-true n 5 e)) λ _. if-case P (eqb n 6) (λ e. sym (eqb-true n 6 e)) λ _.
-    if-case P (eqb n 7) (λ e. sym (eqb-true n 7 e)) λ _. if-case P (eqb n 8) (λ e. sym (eqb-true n 8 e)) λ _. tt
+code-named n = code-cases (Ok (λ s. codeOf s ≡ n)) n (λ s e. e) tt
+
+pub code-err : (P : ℕ → Type 0) → P 3 → (n : ℕ) → Err P (specialOf n)
+code-err P three n = code-cases (Err P) n (λ s e. tt) three

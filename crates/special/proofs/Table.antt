@@ -1,34 +1,24 @@
--- The rule of the table of special commands, at every command and state, by one test that antt computes.
+-- The rule of the table of special commands, by tests that antt computes at its 24 places: the entry of a command in a state is the error that it
+-- gets there, and that error says why.
 -- Assumes nothing.
 use mathlib.Core.Path.{_≡_, refl, sym, ap, ap₂, _∙_}
-use Prim.Native.Nat.{ℕ, _+_, _-_, _*_, _/_, _%_, _<_}
+use Prim.Native.Nat.{ℕ, zero, suc, _+_, _-_, _*_, _/_, _%_, _<_, _≤_}
 use native.Mathlib.Omega.{arith}
-use mathlib.Core.Bool.{Bool, true, false}
-use mathlib.Core.List.{List, [], _∷_}
-use lib.Dec.{eqb, lit<}
+use mathlib.Core.Bool.{Bool, true, false, not, _&&_, _||_}
+use mathlib.Core.List.{List, [], _∷_, _++_}
+use lib.Dec.{eqb, leb, lit<}
 use lib.ListN.{getD}
-use borrow.Author.Tests.{eqb-true}
+use borrow.Author.Tests.{eqb-true, leb-true}
 use Rattle.formats.specs.Checks.{if_then_else_, Res, refused, passed}
-use Rattle.formats.proofs.Checks.{below}
+use Rattle.formats.proofs.Checks.{both-true, allBelow, below}
 use Rattle.special.specs.declared.Mode.{Mode}
 use Rattle.special.specs.declared.Mode.the-variants.{Stop, Pause, Auto}
 use Rattle.special.specs.declared.Special.{Special}
-use Rattle.special.specs.Special.{forbidden, codeOf, specialOf}
+use Rattle.special.specs.Special.{forbidden, allowed, codeOf, specialOf}
 use Rattle.special.proofs.Codes.{code-low, code-high, code-back}
 
--- the table of the code, row by row
-abbrev table : List ℕ
-table =
-    0 ∷ 0 ∷ 0
-    ∷ 5 ∷ 0 ∷ 0
-    ∷ 0 ∷ 5 ∷ 5
-    ∷ 5 ∷ 0 ∷ 5
-    ∷ 0 ∷ 5 ∷ 5
-    ∷ 0 ∷ 5 ∷ 5
-    ∷ 0 ∷ 5 ∷ 5
-    ∷ 0 ∷ 5 ∷ 5 ∷ []
+-- ---- its places: three for each code, in the order of the codes
 
--- its columns
 abbrev pub columnOf : Mode → ℕ
 columnOf Stop = 0
 columnOf Pause = 1
@@ -47,32 +37,68 @@ column-back Stop = refl
 column-back Pause = refl
 column-back Auto = refl
 
--- ---- the test
+abbrev pub placeOf : Special → Mode → ℕ
+placeOf s mode = 3 * (codeOf s - 1) + columnOf mode
 
-abbrev agrees : ℕ → Res Special → Mode → Bool
-agrees entry (refused e) mode = false
-agrees entry (passed s) mode = eqb entry (forbidden s mode)
+pub place-within : (s : Special) (mode : Mode) → placeOf s mode < 24
+place-within s mode = omega (arith, code-low s, code-high s, column-below mode)
 
--- entry k is that of the command of code 1 + k / 3 in column k % 3
-abbrev right : ℕ → Bool
-right k = agrees (getD table k 0) (specialOf (k / 3 + 1)) (modeAt (k % 3))
+-- ---- what is said of a command in a state
 
-every-entry : (k : ℕ) → k < 24 → right k ≡ true
-unfolding forbidden specialOf
-every-entry = below right 24 refl
+abbrev ofNamed : {A : Type 0} → A → Res Special → (Special → A) → A
+ofNamed other (refused e) f = other
+ofNamed other (passed s) f = f s
+
+-- place k is that of the command of code 1 + k / 3 in column k % 3
+abbrev atPlace : {A : Type 0} → A → (Special → Mode → A) → ℕ → A
+atPlace other f k = ofNamed other (specialOf (k / 3 + 1)) (λ s. f s (modeAt (k % 3)))
+
+-- What is so at the 24 places is so of every command in every state.
+pub every : (test : Special → Mode → Bool) → allBelow (atPlace false test) 24 ≡ true → (s : Special) (mode : Mode) → test s mode ≡ true
+every test holds s mode =
+    let row : placeOf s mode / 3 + 1 ≡ codeOf s = omega (arith, code-low s, column-below mode) in
+    let column : placeOf s mode % 3 ≡ columnOf mode = omega (arith, column-below mode) in
+    sym (ap₂ (λ r m. ofNamed false r (λ x. test x m)) (ap specialOf row ∙ code-back s) (ap modeAt column ∙ column-back mode))
+    ∙ below (atPlace false test) 24 holds (placeOf s mode) (place-within s mode)
+
+-- ---- the table
+
+-- the first n entries, by the definition; the code's constant is the first 24
+abbrev entries : ℕ → List ℕ
+entries zero = []
+entries (suc n) = entries n ++ (atPlace 0 forbidden n ∷ [])
 
 -- The entry of a command in a state is the error that it gets there, 0 where it is allowed.
-module _ (s : Special) (mode : Mode) where
-  abbrev place : ℕ
-  place = 3 * (codeOf s - 1) + columnOf mode
+pub entry-tells : (s : Special) (mode : Mode) → getD (entries 24) (placeOf s mode) 0 ≡ forbidden s mode
+unfolding forbidden specialOf
+entry-tells s mode =
+    eqb-true (getD (entries 24) (placeOf s mode) 0) (forbidden s mode)
+    (every (λ s mode. eqb (getD (entries 24) (placeOf s mode) 0) (forbidden s mode)) refl s mode)
 
-  pub entry-within : place < 24
-  entry-within = omega (arith, code-low s, code-high s, column-below mode)
+-- 02, item 3: the error e, or 0, says in which states the command is allowed
+abbrev pub isReason : ℕ → Special → Bool
+isReason e s =
+    if eqb e 0 then true
+    -- "E020 needs a stopped program": when the program is stopped, and in no other state
+    else if eqb e 20 then allowed s Stop && not (allowed s Pause) && not (allowed s Auto)
+    -- "E021 needs a pause": in a pause, and in no other state
+    else if eqb e 21 then not (allowed s Stop) && allowed s Pause && not (allowed s Auto)
+    -- "E022 nothing is running to pause": whenever a program runs, paused or not
+    else if eqb e 22 then not (allowed s Stop) && allowed s Pause && allowed s Auto
+    -- there is no other
+    else false
 
-  pub entry-tells : getD table place 0 ≡ forbidden s mode
-  entry-tells =
-      let row : place / 3 + 1 ≡ codeOf s = omega (arith, code-low s, column-below mode) in
-      let column : place % 3 ≡ columnOf mode = omega (arith, column-below mode) in
-      eqb-true (getD table place 0) (forbidden s mode)
-      (sym (ap₂ (agrees (getD table place 0)) (ap specialOf row ∙ code-back s) (ap modeAt column ∙ column-back mode))
-      ∙ every-entry place entry-within)
+-- The error that a command gets says in which states it is allowed.
+pub says-why : (s : Special) (mode : Mode) → isReason (forbidden s mode) s ≡ true
+unfolding forbidden specialOf
+says-why = every (λ s mode. isReason (forbidden s mode) s) refl
+
+-- Where it is not allowed, that is one of 020, 021 and 022.
+in-range : (s : Special) (mode : Mode) → (allowed s mode || (leb 20 (forbidden s mode) && leb (forbidden s mode) 22)) ≡ true
+unfolding forbidden specialOf
+in-range = every (λ s mode. allowed s mode || (leb 20 (forbidden s mode) && leb (forbidden s mode) 22)) refl
+
+pub forbidden-number : (s : Special) (mode : Mode) → allowed s mode ≡ false → (20 ≤ forbidden s mode) × (forbidden s mode ≤ 22)
+forbidden-number s mode f =
+    let p = both-true (leb 20 (forbidden s mode)) (leb (forbidden s mode) 22) (rw f at (in-range s mode)) in
+    (leb-true 20 (forbidden s mode) (p .0), leb-true (forbidden s mode) 22 (p .1))

@@ -1,5 +1,5 @@
 -- The special commands.
--- 01, 'Special commands', and its table.
+-- 01, 'Special commands', and its table; 02, item 3.
 use Prim.Native.Nat.{ℕ}
 use mathlib.Core.Bool.{Bool, true, false}
 use lib.Dec.{eqb, leb}
@@ -20,17 +20,26 @@ row stop pause auto M.the-variants.Stop = stop
 row stop pause auto M.the-variants.Pause = pause
 row stop pause auto M.the-variants.Auto = auto
 
--- The error that a command is refused with, 0 where it is allowed. Check 7: "code forbidden in the present state, E005". The paper's 1
--- is 0 here, and its 0 is 5. A row is Stop, Pause, Auto.
+-- The error that a command is refused with, 0 where it is allowed. 01's table has a 1 where it is allowed, in Stop, Pause, Auto:
+--     001 stop                                      1 1 1
+--     002 pause                                     0 1 1
+--     003 start at 000                              1 0 0
+--     004 continue                                  0 1 0
+--     005 start at parameter, at most 199           1 0 0
+--     006 execute one line, parameter at most 200   1 0 0
+--     007 load saved copy                           1 0 0
+--     008 save                                      1 0 0
+-- and where it has a 0, 02, item 3, says why: "E020 needs a stopped program, E021 needs a pause, E022 nothing is running to pause, in
+-- place of E005 there".
 unfoldable pub forbidden : Special → Mode → ℕ
 forbidden Stop = row 0 0 0
-forbidden Pause = row 5 0 0
-forbidden Start = row 0 5 5
-forbidden Continue = row 5 0 5
-forbidden StartAt = row 0 5 5
-forbidden Execute = row 0 5 5
-forbidden Load = row 0 5 5
-forbidden Save = row 0 5 5
+forbidden Pause = row 22 0 0
+forbidden Start = row 0 20 20
+forbidden Continue = row 21 0 21
+forbidden StartAt = row 0 20 20
+forbidden Execute = row 0 20 20
+forbidden Load = row 0 20 20
+forbidden Save = row 0 20 20
 
 abbrev pub allowed : Special → Mode → Bool
 allowed s mode = eqb (forbidden s mode) 0

@@ -34,27 +34,27 @@ const FORBIDDEN: [u8; 24] = [
     0, // 001 stop, Stop
     0, // 001 stop, Pause
     0, // 001 stop, Auto
-    5, // 002 pause, Stop
+    22, // 002 pause, Stop
     0, // 002 pause, Pause
     0, // 002 pause, Auto
     0, // 003 start, Stop
-    5, // 003 start, Pause
-    5, // 003 start, Auto
-    5, // 004 continue, Stop
+    20, // 003 start, Pause
+    20, // 003 start, Auto
+    21, // 004 continue, Stop
     0, // 004 continue, Pause
-    5, // 004 continue, Auto
+    21, // 004 continue, Auto
     0, // 005 start at, Stop
-    5, // 005 start at, Pause
-    5, // 005 start at, Auto
+    20, // 005 start at, Pause
+    20, // 005 start at, Auto
     0, // 006 execute one line, Stop
-    5, // 006 execute one line, Pause
-    5, // 006 execute one line, Auto
+    20, // 006 execute one line, Pause
+    20, // 006 execute one line, Auto
     0, // 007 load, Stop
-    5, // 007 load, Pause
-    5, // 007 load, Auto
+    20, // 007 load, Pause
+    20, // 007 load, Auto
     0, // 008 save, Stop
-    5, // 008 save, Pause
-    5, // 008 save, Auto
+    20, // 008 save, Pause
+    20, // 008 save, Auto
 ];
 
 // The state of the table: a box that is paused is running too.

@@ -12,8 +12,8 @@ use native.Mathlib.Omega.{arith}
 use borrow.Author.Tests.{eqb-true, ltb-true, leb-true}
 use Rattle.formats.specs.Checks.{Res, refused, passed, _>>=_, _>>_, _orElse_, text, Ok}
 use Rattle.formats.specs.Digits.{shown, numberIn}
-use Rattle.formats.proofs.Checks.{if-case, both-true, ok-bind, ok-guard}
-use Rattle.formats.proofs.Characters.{length-shown, shown-back, read-shows, read-fits}
+use Rattle.formats.proofs.Checks.{if-case, both-true, ok-bind, ok-guard, Err, err-bind, err-guard}
+use Rattle.formats.proofs.Characters.{length-shown, shown-back, read-shows, read-fits, number-err}
 use Rattle.formats.proofs.Parts.{length-part}
 use Rattle.lines.specs.declared.Line.{Line}
 use Rattle.lines.specs.declared.Line.the-variants.{State, For, Next}
@@ -169,3 +169,35 @@ text-accepted (For c n) f =
     let len : length (shown 10 1 c ++ shown 10 4 n) ≡ 5 = simp (length-append, length-shown) in
     rw (len, first-of-two 10 10 1 4 c n, counter-back c (f .0), second-of-two 10 10 1 4 c n, decimal-back 4 n (omega (arith, f .1)))
 text-accepted (Next c) f = rw (length-shown 10 1 c, whole 10 1 c, counter-back c f)
+
+-- ---- the errors of characters that are no line
+
+module _ (P : ℕ → Type 0) (two : P 2) (three : P 3) where
+  counter-err : (cs : List ℕ) → Err P (counterIn cs)
+  unfolding counterIn
+  counter-err cs = err-bind P (numberIn 10 3 cs) _ (number-err P 10 3 three cs) λ c _. err-guard P (isCounter c) 3 _ (λ _. three) λ _. tt
+
+  state-err : (cs : List ℕ) → Err P (stateIn cs)
+  unfolding stateIn
+  state-err cs =
+      err-bind P (numberIn 10 3 (part 1 2 cs)) _ (number-err P 10 3 three _) λ reserved _. err-guard P (eqb reserved 0) 3 _ (λ _. three) λ _.
+      err-bind P (numberIn 16 3 (part 3 8 cs)) _ (number-err P 16 3 three _) λ outputs _.
+      err-bind P (numberIn 10 3 (part 11 4 cs)) _ (number-err P 10 3 three _) λ time _. tt
+
+  for-err : (cs : List ℕ) → Err P (forIn cs)
+  unfolding forIn
+  for-err cs =
+      err-bind P (counterIn (part 1 1 cs)) _ (counter-err _) λ counter _.
+      err-bind P (numberIn 10 3 (part 2 4 cs)) _ (number-err P 10 3 three _) λ count _. tt
+
+  next-err : (cs : List ℕ) → Err P (nextIn cs)
+  unfolding nextIn
+  next-err cs = err-bind P (counterIn (part 1 1 cs)) _ (counter-err _) λ counter _. tt
+
+  pub line-err : (cs : List ℕ) → Err P (lineIn cs)
+  unfolding lineIn
+  line-err cs =
+      let first = getD cs 0 0 in
+      err-guard P (ltb 0 (length cs)) 2 _ (λ _. two) λ _. err-guard P (ltb 0 (lineLength first)) 3 _ (λ _. three) λ _.
+      err-guard P (eqb (length cs) (lineLength first)) 2 _ (λ _. two) λ _.
+      if-case (Err P) (eqb first (code "S")) (λ _. state-err cs) λ _. if-case (Err P) (eqb first (code "F")) (λ _. for-err cs) λ _. next-err cs

@@ -4,14 +4,14 @@ use mathlib.Core.Path.{_≡_, refl, sym, ap, _∙_}
 use Prim.Native.Nat.{ℕ, suc, _-_, _/_, _%_, _≤_, _<_}
 use Prim.Native.Char.{code}
 use native.Mathlib.Omega.{arith}
-use mathlib.Core.Bool.{Bool, true, false, not, _&&_, _||_}
+use mathlib.Core.Bool.{Bool, true, false, not, _&&_, _||_, true≢false}
 use mathlib.Core.List.{List, _∷_, _++_}
 use lib.ListN.{length, drop, length-drop}
 use lib.Dec.{eqb, leb}
-use borrow.Author.Tests.{eq-eqb, ne-eqb, le-leb, leb-true, not-true}
+use borrow.Author.Tests.{eq-eqb, ne-eqb, le-leb, lt-leb, leb-true, leb-false, not-true}
 use Rattle.formats.specs.Checks.{passed, _>>=_, _>>_, _orElse_, text, Ok}
 use Rattle.formats.specs.Digits.{digits, digitChar, shown, numberIn}
-use Rattle.formats.proofs.Checks.{if-case, both-true, below, ok-passed, ok-guard}
+use Rattle.formats.proofs.Checks.{if-case, both-true, and-false, below, ok-passed, ok-guard}
 use Rattle.formats.proofs.Characters.{shown-back}
 use Rattle.formats.specs.Bytes.{part}
 use Rattle.wire.specs.Command.{char, isRead, isWrite, isStepwise, hasAddress, inFormat, rest, addressIn, isWritable}
@@ -66,11 +66,11 @@ pub address-inside : (next : ℕ) (cs : List ℕ) → next ≤ 217 → Ok (λ k.
 unfolding addressIn
 address-inside next cs le =
     if-case (Ok (λ k. k ≤ 216)) (eqb (char cs 2) (code "I"))
-    (λ _. ok-guard (λ k. k ≤ 216) (leb next 216) 4 _ λ e. leb-true next 216 e) λ _.
+    (λ _. ok-guard (λ k. k ≤ 216) (leb next 216) _ _ λ e. leb-true next 216 e) λ _.
     if-case (Ok (λ k. k ≤ 216)) (eqb (char cs 2) (code "D"))
-    (λ _. ok-guard (λ k. k ≤ 216) (leb 2 next) 4 _ λ _. omega arith) λ _.
+    (λ _. ok-guard (λ k. k ≤ 216) (leb 2 next) _ _ λ _. omega arith) λ _.
     ok-passed (λ k. k ≤ 216) (numberIn 10 4 (part 2 3 cs)) _ λ k _.
-    ok-guard (λ k. k ≤ 216) (leb k 216) 4 _ λ e. leb-true k 216 e
+    ok-guard (λ k. k ≤ 216) (leb k 216) _ _ λ e. leb-true k 216 e
 
 -- a command whose address is neither I nor D has five characters
 pub five-long : (cs : List ℕ) → (isStepwise cs || leb 5 (length cs)) ≡ true → (char cs 2 ≡ code "I" → ⊥) → (char cs 2 ≡ code "D" → ⊥) → 5 ≤ length cs
@@ -92,6 +92,18 @@ rest-none cs at e le = eq-eqb (length (rest cs)) 0 (let n : length (rest cs) ≡
 -- a command in the format has room for an address
 pub format-address : (overlong : Bool) (cs : List ℕ) → inFormat overlong cs ≡ true → hasAddress cs ≡ true
 format-address overlong cs e = both-true (not overlong && eqb (char cs 0) (code "C") && (isRead cs || isWrite cs)) (hasAddress cs) e .1
+
+-- an address that can be written is one of the 217
+pub writable-inside : (k : ℕ) → isWritable k ≡ true → k ≤ 216
+writable-inside k can = go (leb k 216) refl
+  where
+    beyond : 216 < k → isWritable k ≡ false
+    beyond lt =
+        rw (lt-leb k 200 (omega arith), lt-leb k 206 (omega arith), ne-eqb k 209 (λ z. omega arith), ne-eqb k 210 (λ z. omega arith), and-false (leb 203 k))
+
+    go : (b : Bool) → leb k 216 ≡ b → k ≤ 216
+    go true e = leb-true k 216 e
+    go false e = absurd (true≢false (sym can ∙ beyond (leb-false k 216 e)))
 
 -- the outputs begin at 203: 201 and 202 cannot be written
 pub outputs-from : (k : ℕ) → isWritable k ≡ true → leb k 200 ≡ false → k ≤ 206 → 203 ≤ k

@@ -24,13 +24,14 @@ use Rattle.wire.specs.declared.Asked.{Asked}
 use Rattle.wire.specs.declared.Asked.the-variants.{Read, Write}
 use Rattle.wire.specs.Collecting.{sent}
 use Rattle.special.specs.declared.Special.{Special}
-use Rattle.special.specs.Special.{codeOf, forbidden, allowed, specialOf, inReach}
+use Rattle.special.specs.Special.{codeOf, allowed, specialOf, inReach}
 use Rattle.special.proofs.Codes.{code-high, code-back}
 use Rattle.wire.specs.Command.{isRead, rest, isWritable, isOpen, specialIn, dataIn, readCommand, writeCommand, commandIn, command}
 use Rattle.wire.specs.Naming.{Names}
 use Rattle.wire.specs.Sound.{Permitted, SoundData, Sound}
 use Rattle.wire.specs.Invariant.{WireInvariant}
-use Rattle.wire.proofs.Addresses.{outputs-from, found, address-inside}
+use Rattle.wire.proofs.Ways.{is-given}
+use Rattle.wire.proofs.Addresses.{outputs-from, found, address-inside, writable-inside}
 
 -- ---- what a command that passes the checks can ask for
 
@@ -39,8 +40,8 @@ module _ (mode : Mode) (parameter : ℕ) where
   unfolding specialIn
   special-sound k cs =
       ok-passed (SoundData mode parameter k) (dIn cs) _ λ n _. ok-passed (SoundData mode parameter k) (specialOf n) _ λ s _.
-      ok-guard (SoundData mode parameter k) (allowed s mode) (forbidden s mode) _ λ e.
-      ok-guard (SoundData mode parameter k) (inReach s parameter) 4 _ λ f. record { may = e; reaches = f }
+      ok-guard (SoundData mode parameter k) (allowed s mode) _ _ λ e.
+      ok-guard (SoundData mode parameter k) (inReach s parameter) _ _ λ f. record { may = e; reaches = f }
 
   data-sound : (k : ℕ) (cs : List ℕ) → isWritable k ≡ true → Ok (SoundData mode parameter k) (dataIn mode parameter k cs)
   unfolding dataIn
@@ -56,11 +57,11 @@ module _ (mode : Mode) (parameter : ℕ) where
   unfolding command commandIn readCommand writeCommand
   asked-sound w i =
       let P = Sound mode parameter in
-      ok-guard P _ 1 _ λ _. ok-guard P _ 2 _ λ _.
+      ok-guard P _ _ _ λ _. ok-guard P _ _ _ λ _.
       if-case (Ok P) (isRead (sent w))
-      (λ _. ok-bind P (λ k. k ≤ 216) _ _ (address-inside (w .nextread) (sent w) (i .nextRead)) λ k le. ok-guard P _ 2 _ λ _. le) λ _.
+      (λ _. ok-bind P (λ k. k ≤ 216) _ _ (address-inside (w .nextread) (sent w) (i .nextRead)) λ k le. ok-guard P _ _ _ λ _. le) λ _.
       ok-bind P (λ k. k ≤ 216) _ _ (address-inside (w .nextwrite) (sent w) (i .nextWrite)) λ k le.
-      ok-guard P (isWritable k) 4 _ λ can. ok-guard P (isOpen mode k) 5 _ λ _.
+      ok-guard P (isWritable k) _ _ λ can. ok-guard P (isOpen mode k) _ _ λ _.
       ok-bind P (SoundData mode parameter k) (dataIn mode parameter k (rest (sent w))) _ (data-sound k (rest (sent w)) can) λ x h. (le, h)
 
 -- ---- commands that name an address in any of the three ways
@@ -80,33 +81,32 @@ module _ (w : Wire) (mode : Mode) (parameter : ℕ) (short : w .overlong ≡ fal
       let e′ : sent w ≡ 67 ∷ 82 ∷ (a ++ []) = e ∙ ap (λ r. 67 ∷ 82 ∷ r) (sym (append-nil a)) in
       rw (e′, f .three, short, f .long, f .address, f .behind)
 
-  module _ (written : List ℕ) (inside : k ≤ 200) (e : sent w ≡ text "CW" ++ (a ++ written)) (n : Names (w .nextwrite) k a) where
-    -- What is left of the checks of a write to 000-200: the mode, and the line.
-    line-checks : command w mode parameter ≡ ((isOpen mode k orElse 5) >> (lineIn written >>= (λ l. passed (WriteLine l)) >>= (λ x. passed (Write k x))))
-    unfolding command commandIn text writeCommand dataIn _>>=_ _>>_ _orElse_
-    line-checks =
-        let f = found 67 87 (w .nextwrite) k (omega arith) written n in
-        rw (e, f .three, short, f .long, f .address, le-leb k 200 inside, f .behind)
+  module _ (written : List ℕ) (e : sent w ≡ text "CW" ++ (a ++ written)) (n : Names (w .nextwrite) k a) where
+    -- What is left of the checks of a write to an address that can be written: the mode, and the data.
+    pub write-checks : isWritable k ≡ true
+        → command w mode parameter ≡ ((isOpen mode k orElse 5) >> (dataIn mode parameter k written >>= (λ x. passed (Write k x))))
+    unfolding command commandIn text writeCommand _>>=_ _>>_ _orElse_
+    write-checks can =
+        let f = found 67 87 (w .nextwrite) k (writable-inside k can) written n in
+        rw (e, f .three, short, f .long, f .address, can, f .behind)
 
-    -- Where it is accepted, it writes the line that was sent to the address that it names.
-    pub write-asked : Ok (WritesLine k written) (command w mode parameter)
-    write-asked =
-        rw line-checks
-        (ok-guard (WritesLine k written) (isOpen mode k) 5 _ λ _.
+    -- Where a write to 000-200 is accepted, it writes the line that was sent to the address that it names.
+    pub write-asked : k ≤ 200 → Ok (WritesLine k written) (command w mode parameter)
+    unfolding dataIn
+    write-asked inside =
+        let line : leb k 200 ≡ true = le-leb k 200 inside in
+        rw (write-checks (rw line), line)
+        (ok-guard (WritesLine k written) (isOpen mode k) _ _ λ _.
         ok-bind (WritesLine k written) (λ x. WritesLine k written (Write k x)) (lineIn written >>= (λ l. passed (WriteLine l))) _
         (ok-bind (λ x. WritesLine k written (Write k x)) (Sent written) (lineIn written) _ (accepted-shows written) λ l s.
         record { line = l; writes = refl; sentAs = s })
         λ x p. p)
 
--- Every write to an address that can be written is accepted when no program runs, where its data are in their format.
-pub data-accepted : (w : Wire) (mode : Mode) (parameter k : ℕ) (a written : List ℕ) (x : Data) → w .overlong ≡ false → mode ≡ Stop → k ≤ 216
-    → isWritable k ≡ true → sent w ≡ text "CW" ++ (a ++ written) → Names (w .nextwrite) k a → dataIn mode parameter k written ≡ passed x
-    → command w mode parameter ≡ passed (Write k x)
-unfolding command commandIn text writeCommand _>>=_ _>>_ _orElse_
-data-accepted w mode parameter k a written x short m inside can e n d =
-    let f = found 67 87 (w .nextwrite) k inside written n in
-    let open′ : isOpen mode k ≡ true = rw m in
-    rw (e, f .three, short, f .long, f .address, can, open′, f .behind, d)
+    -- A write to an address that can be written is accepted where check 4 lets it through and its data are in their format.
+    pub data-accepted : isWritable k ≡ true → isOpen mode k ≡ true → (x : Data) → dataIn mode parameter k written ≡ passed x
+        → command w mode parameter ≡ passed (Write k x)
+    unfolding _>>=_ _>>_ _orElse_
+    data-accepted can open′ x d = write-checks can ∙ rw (open′, d)
 
 -- ---- data in their format
 
@@ -124,12 +124,12 @@ module _ (mode : Mode) (parameter : ℕ) where
   parameter-read v le = rw (d-back v le)
 
   pub special-read : (s : Special) → Permitted mode parameter s → dataIn mode parameter 210 (d (codeOf s)) ≡ passed (WriteSpecial s)
-  unfolding dataIn specialIn _>>=_ _>>_ _orElse_
-  special-read s p = let hi = code-high s in rw (d-back (codeOf s) (omega arith), code-back s, p .may, p .reaches)
+  unfolding dataIn
+  special-read s p = let hi = code-high s in is-given mode parameter _ (codeOf s) (d-back (codeOf s) (omega arith)) s (code-back s) (p .may) (p .reaches)
 
 -- So every line whose values fit is accepted when no program runs: a box that answers E002 to all fails this.
 pub write-accepted : (w : Wire) (mode : Mode) (parameter : ℕ) → w .overlong ≡ false → (k : ℕ) (a : List ℕ) (l : Line) → Fits l → mode ≡ Stop → k ≤ 200
     → sent w ≡ text "CW" ++ (a ++ lineText l) → Names (w .nextwrite) k a → command w mode parameter ≡ passed (Write k (WriteLine l))
 write-accepted w mode parameter short k a l f m inside e n =
-    data-accepted w mode parameter k a (lineText l) (WriteLine l) short m (omega arith) (rw (le-leb k 200 inside)) e n
+    data-accepted w mode parameter short k a (lineText l) e n (rw (le-leb k 200 inside)) (rw m) (WriteLine l)
     (line-read mode parameter k l inside f)

@@ -1,7 +1,7 @@
 -- While a program runs or is paused, a command that passes the checks is a read, sets the parameter, or is one of the special
 -- commands stop, pause and continue.
 -- Assumes nothing.
-use mathlib.Core.Path.{_≡_, refl}
+use mathlib.Core.Path.{_≡_, refl, sym, _∙_}
 use mathlib.Core.Logic.{_≢_}
 use Prim.Native.Nat.{ℕ}
 use mathlib.Core.Bool.{Bool, true, false, _||_}
@@ -19,7 +19,7 @@ use Rattle.wire.specs.declared.Data.the-variants.{WriteLine, WriteOutput
 use Rattle.wire.specs.declared.Asked.{Asked}
 use Rattle.wire.specs.declared.Asked.the-variants.{Read, Write}
 use Rattle.wire.specs.Collecting.{sent}
-use Rattle.special.specs.Special.{forbidden, allowed, inReach, specialOf}
+use Rattle.special.specs.Special.{allowed, inReach, specialOf}
 use Rattle.special.proofs.Quiet.{quietSpecial, special-quiet}
 use Rattle.wire.specs.Command.{isRead, isWritable, isOpen, rest, addressIn, specialIn, dataIn, readCommand, writeCommand, commandIn, command}
 
@@ -40,10 +40,10 @@ abbrev Quiet : Asked → Type 0
 Quiet q = quiet q ≡ true
 
 -- in Pause and Auto only 209 and 210 are open
-open-one : (mode : Mode) (k : ℕ) → mode ≢ M.the-variants.Stop → isOpen mode k ≡ true → (eqb k 209 || eqb k 210) ≡ true
-open-one M.the-variants.Stop k ne e = absurd (ne refl)
-open-one M.the-variants.Pause k ne e = e
-open-one M.the-variants.Auto k ne e = e
+pub open-else : (mode : Mode) (k : ℕ) → mode ≢ M.the-variants.Stop → isOpen mode k ≡ (eqb k 209 || eqb k 210)
+open-else M.the-variants.Stop k ne = absurd (ne refl)
+open-else M.the-variants.Pause k ne = refl
+open-else M.the-variants.Auto k ne = refl
 
 -- which are open in every mode
 pub always-open : (mode : Mode) (k : ℕ) → (eqb k 209 || eqb k 210) ≡ true → isOpen mode k ≡ true
@@ -56,7 +56,7 @@ module _ (mode : Mode) (parameter : ℕ) (runs : mode ≢ M.the-variants.Stop) w
   unfolding specialIn
   special-in-quiet cs =
       ok-passed QuietData (dIn cs) _ λ n _. ok-passed QuietData (specialOf n) _ λ s _.
-      ok-guard QuietData (allowed s mode) (forbidden s mode) _ λ e. ok-guard QuietData (inReach s parameter) 4 _ λ _. special-quiet s mode runs e
+      ok-guard QuietData (allowed s mode) _ _ λ e. ok-guard QuietData (inReach s parameter) _ _ λ _. special-quiet s mode runs e
 
   parameter-quiet : (cs : List ℕ) → Ok QuietData (dIn cs >>= (λ v. passed (WriteParameter v)))
   parameter-quiet cs = ok-passed QuietData (dIn cs) _ λ v _. refl
@@ -64,16 +64,16 @@ module _ (mode : Mode) (parameter : ℕ) (runs : mode ≢ M.the-variants.Stop) w
   write-quiet : (k : ℕ) (cs : List ℕ) → isOpen mode k ≡ true → Ok QuietData (dataIn mode parameter k cs)
   unfolding dataIn
   write-quiet k cs e =
-      either-true (eqb k 209) (eqb k 210) (open-one mode k runs e)
+      either-true (eqb k 209) (eqb k 210) (sym (open-else mode k runs) ∙ e)
       (λ f. rw (eqb-true k 209 f) (parameter-quiet cs)) (λ f. rw (eqb-true k 210 f) (special-in-quiet cs))
 
   -- The sentence at the top.
   pub command-quiet : (w : Wire) → Ok (λ (q : Asked). quiet q ≡ true) (command w mode parameter)
   unfolding command commandIn readCommand writeCommand
   command-quiet w =
-      ok-guard Quiet _ 1 _ λ _. ok-guard Quiet _ 2 _ λ _.
+      ok-guard Quiet _ _ _ λ _. ok-guard Quiet _ _ _ λ _.
       if-case (Ok Quiet) (isRead (sent w))
-      (λ _. ok-passed Quiet (addressIn (w .nextread) (sent w)) _ λ k _. ok-guard Quiet _ 2 _ λ _. refl) λ _.
+      (λ _. ok-passed Quiet (addressIn (w .nextread) (sent w)) _ λ k _. ok-guard Quiet _ _ _ λ _. refl) λ _.
       ok-passed Quiet (addressIn (w .nextwrite) (sent w)) _ λ k _.
-      ok-guard Quiet (isWritable k) 4 _ λ _. ok-guard Quiet (isOpen mode k) 5 _ λ e.
+      ok-guard Quiet (isWritable k) _ _ λ _. ok-guard Quiet (isOpen mode k) _ _ λ e.
       ok-bind Quiet QuietData (dataIn mode parameter k (rest (sent w))) _ (write-quiet k (rest (sent w)) e) λ x q. q

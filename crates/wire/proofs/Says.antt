@@ -12,7 +12,7 @@ use Rattle.formats.specs.Digits.{hIn, dIn}
 use Rattle.formats.proofs.Checks.{if-case, both-true, ok-at, ok-passed, ok-guard}
 use Rattle.texts.specs.Text.{lineIn}
 use Rattle.special.specs.declared.Mode.{Mode}
-use Rattle.special.specs.Special.{codeOf, forbidden, allowed, specialOf, inReach}
+use Rattle.special.specs.Special.{codeOf, allowed, specialOf, inReach}
 use Rattle.special.proofs.Codes.{code-named}
 use Rattle.wire.specs.declared.Wire.{Wire}
 use Rattle.wire.specs.declared.Data.{Data}
@@ -34,7 +34,7 @@ Heard k cs (WriteParameter v) = (k ≡ 209) × (dIn cs ≡ passed v)
 Heard k cs (WriteSpecial s) = (k ≡ 210) × (dIn cs ≡ passed (codeOf s))
 
 -- of the writable addresses 210 comes last
-last-writable : (k : ℕ) → isWritable k ≡ true → leb k 200 ≡ false → leb k 206 ≡ false → eqb k 209 ≡ false → k ≡ 210
+pub last-writable : (k : ℕ) → isWritable k ≡ true → leb k 200 ≡ false → leb k 206 ≡ false → eqb k 209 ≡ false → k ≡ 210
 last-writable k can a b c = go (leb 203 k) refl
   where
     go : (t : Bool) → leb 203 k ≡ t → k ≡ 210
@@ -46,7 +46,7 @@ module _ (mode : Mode) (parameter : ℕ) where
   unfolding specialIn
   special-heard k cs at =
       ok-passed (Heard k cs) (dIn cs) _ λ n e. ok-passed (Heard k cs) (specialOf n) _ λ s f.
-      ok-guard (Heard k cs) (allowed s mode) (forbidden s mode) _ λ _. ok-guard (Heard k cs) (inReach s parameter) 4 _ λ _.
+      ok-guard (Heard k cs) (allowed s mode) _ _ λ _. ok-guard (Heard k cs) (inReach s parameter) _ _ λ _.
       (at, e ∙ ap passed (sym (ok-at (λ z. codeOf z ≡ n) (code-named n) f)))
 
   data-heard : (k : ℕ) (cs : List ℕ) → isWritable k ≡ true → Ok (Heard k cs) (dataIn mode parameter k cs)
@@ -85,11 +85,11 @@ pub command-says : (w : Wire) (mode : Mode) (parameter : ℕ) → Ok (Spoken w) 
 unfolding command commandIn readCommand writeCommand
 command-says w mode parameter =
     let P = Spoken w in
-    ok-guard P _ 1 _ λ _. ok-guard P (inFormat (w .overlong) (sent w)) 2 _ λ f.
+    ok-guard P _ _ _ λ _. ok-guard P (inFormat (w .overlong) (sent w)) _ _ λ f.
     if-case (Ok P) (isRead (sent w))
-    (λ r. ok-passed P (addressIn (w .nextread) (sent w)) _ λ k e. ok-guard P _ 2 _ λ _.
+    (λ r. ok-passed P (addressIn (w .nextread) (sent w)) _ λ k e. ok-guard P _ _ _ λ _.
     record { short = format-short (w .overlong) (sent w) f; says = (r, e) }) λ r.
     ok-passed P (addressIn (w .nextwrite) (sent w)) _ λ k e.
-    ok-guard P (isWritable k) 4 _ λ can. ok-guard P (isOpen mode k) 5 _ λ _.
+    ok-guard P (isWritable k) _ _ λ can. ok-guard P (isOpen mode k) _ _ λ _.
     ok-passed P (dataIn mode parameter k (rest (sent w))) _ λ x h.
     record { short = format-short (w .overlong) (sent w) f; says = (r, e, ok-at (Heard k (rest (sent w))) (data-heard mode parameter k (rest (sent w)) can) h) }

@@ -12,6 +12,7 @@ use Rattle.texts.specs.Text.{lineIn}
 use Rattle.wire.specs.declared.Wire.{Wire}
 use Rattle.special.specs.declared.Mode.{Mode}
 use Rattle.special.specs.declared.Mode.the-variants.{Stop, Pause, Auto}
+use Rattle.special.specs.declared.Special.{Special}
 use Rattle.wire.specs.declared.Data.{Data}
 use Rattle.wire.specs.declared.Data.the-variants.{WriteLine, WriteOutputs, WriteParameter, WriteSpecial}
 use Rattle.wire.specs.declared.Asked.{Asked}
@@ -67,14 +68,20 @@ isOpen Auto k = eqb k 209 || eqb k 210
 
 -- ---- checks 5 to 7: the data of a write
 
--- check 7: "code not 001-008, E003; code forbidden in the present state, E005; parameter out of reach, E004."
+-- of check 7 what follows the code: "code forbidden in the present state, E005; parameter out of reach, E004." 02, item 3: the numbers of
+-- the table "in place of E005 there; E023 parameter out of reach, in place of E004; same places in the order."
+abbrev pub specialNow : Mode → ℕ → Special → Res Data
+specialNow mode parameter s = do
+  allowed s mode orElse forbidden s mode
+  inReach s parameter orElse 23
+  passed (WriteSpecial s)
+
+-- check 7: "code not 001-008, E003", and then that
 unfoldable pub specialIn : Mode → ℕ → List ℕ → Res Data
 specialIn mode parameter cs = do
   n ← dIn cs
   s ← specialOf n
-  allowed s mode orElse forbidden s mode
-  inReach s parameter orElse 4
-  passed (WriteSpecial s)
+  specialNow mode parameter s
 
 -- by the address: a line (000-200), outputs (203-206), the parameter (209), a special command (210)
 unfoldable pub dataIn : Mode → ℕ → ℕ → List ℕ → Res Data

@@ -147,7 +147,7 @@ fn capitals(chars: [u8; 32], len: usize) -> [u8; 32]
 }
 
 // Check 7: the special command that a code names; E003 where it names none, the table's error where it is forbidden in the present state,
-// E004 where the parameter is out of its reach.
+// E023 where the parameter is out of its reach.
 fn special_in(mode: Mode, parameter: u8, cs: &[u8]) -> Given
     ensures special { λ r. ⌜ r ≡ givenOf (specialIn mode parameter (now (cs .entry))) ⌝ }
 {
@@ -170,7 +170,7 @@ fn special_in(mode: Mode, parameter: u8, cs: &[u8]) -> Given
     if special::in_reach(s, parameter) {
         return Given::Is(Data::WriteSpecial(s));
     }
-    Given::Error(4)
+    Given::Error(23)
 }
 
 // The data of a write, by its address: a line, outputs, the parameter or a special command.

@@ -1,11 +1,12 @@
--- `special::forbidden` meets its contract, by the rule of the table (`Table.antt`).
+-- `special::forbidden` meets its contract, by the rule of the table (`Table.antt`): the constant is the list of entries that the definition gives.
 -- Assumes nothing.
 use mathlib.Core.Logic.{⊎-elim}
 use mathlib.Core.Path.{_≡_, sym, ap, _∙_}
 use native.Mathlib.Omega.{arith}
 use borrow.Author.Needs.{needs}
+use Rattle.special.specs.Special.{forbidden, specialOf}
 use Rattle.special.proofs.Codes.{code-low}
-use Rattle.special.proofs.Table.{columnOf, entry-within, entry-tells}
+use Rattle.special.proofs.Table.{columnOf, place-within, entry-tells}
 use Rattle.special.proofs.forbidden.Statement.{statement}
 use Rattle.special.proofs.forbidden.Tie as tie
 
@@ -39,14 +40,15 @@ mul-at c = search needs
 add-at : tie.Need-add-at
 add-at c =
     let a = c .before .before .before .args in
-    omega (arith, c .before .before .code-of .ensures, column-is (c .before), entry-within (a .s) (a .mode))
+    omega (arith, c .before .before .code-of .ensures, column-is (c .before), place-within (a .s) (a .mode))
 
 array-read-result : tie.Need-array-read-result
 array-read-result c =
     let a = c .before .before .before .args in
-    omega (arith, c .before .before .code-of .ensures, column-is (c .before), entry-within (a .s) (a .mode))
+    omega (arith, c .before .before .code-of .ensures, column-is (c .before), place-within (a .s) (a .mode))
 
 returns : tie.Need-returns
+unfolding forbidden specialOf
 returns c =
     let a = c .before .before .before .args in
     simp (c .before .before .code-of .ensures, column-is (c .before)) (entry-tells (a .s) (a .mode))
