@@ -113,7 +113,8 @@ static int finish(struct calls *calls)
     printf("%" PRIu64 " logs on both readers: equal in every text and in every byte behind it.\n", calls->lists.read);
     bool met = statistics_print(&calls->statistics);
     if (calls->statistics.astray > 0) {
-        printf("\nASTRAY: %" PRIu64 " replies, alike of both boxes, are errors that no paper has, or to special commands and not those above.\n",
+        printf("\nASTRAY: %" PRIu64 " replies of both boxes are not the papers': an error that has no meaning, or a special command\n"
+               "that is not answered as above.\n",
                calls->statistics.astray);
         return 1;
     }

@@ -6,7 +6,7 @@ use mathlib.Core.Bool.{Bool, true, false}
 use mathlib.Core.List.{List}
 use lib.Dec.{eqb, leb}
 use Rattle.formats.specs.Checks.{Res, refused, passed, _>>=_, _>>_, _orElse_}
-use Rattle.formats.specs.Digits.{d, dIn}
+use Rattle.formats.specs.Digits.{dIn}
 use Rattle.formats.proofs.Checks.{if-two}
 use Rattle.special.specs.declared.Special.{Special}
 use Rattle.special.specs.declared.Special.the-variants.{Stop, Pause, Start, Continue, StartAt, Execute, Load, Save}

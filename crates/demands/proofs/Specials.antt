@@ -46,12 +46,12 @@ use Rattle.demands.proofs.Due.{done-says, special-alike}
 -- ---- a write to an address that can be written
 
 -- a write is answered OK or with the error of the check that stops it
-write-reply : (open′ : Bool) (r : Res Data) (k : ℕ) (c : Controller) (a : Areas)
-    → replyOf ((open′ orElse 5) >> (r >>= (λ x. passed (Write k x)))) c a ≡ ended (okOr ((open′ orElse 5) >> r))
-unfolding _>>=_ _>>_ _orElse_
-write-reply true (refused e) k c a = refl
-write-reply true (passed x) k c a = refl
-write-reply false r k c a = refl
+write-reply : {A : Type 0} (g : Res A) (r : Res Data) (k : ℕ) (c : Controller) (a : Areas)
+    → replyOf (g >> (r >>= (λ x. passed (Write k x)))) c a ≡ ended (okOr (g >> r))
+unfolding _>>=_ _>>_
+write-reply (refused e) r k c a = refl
+write-reply (passed y) (refused e) k c a = refl
+write-reply (passed y) (passed x) k c a = refl
 
 -- its characters are at most 32, arrive at any box, and name an address that can be written by three digits, I or D; then byte 13 is accepted
 module _ (ms : List Made) (a : Areas) (k : ℕ) (address written : List ℕ) (can : isWritable k ≡ true)
@@ -70,7 +70,7 @@ module _ (ms : List Made) (a : Areas) (k : ℕ) (address written : List ℕ) (ca
       let checks = write-checks (c .wire) (mode c) (c .panel .parameter) short k address written (arrives-sent (told ms) c g _ arrived short)
       (rw (g .wire .nextWrite) named) can in
       reply-is (after unpowered ms) a accepted ∙ ap (λ r. replyOf r c a) checks
-      ∙ write-reply (isOpen (mode c) k) (dataIn (mode c) (c .panel .parameter) k written) k c a
+      ∙ write-reply (isOpen (mode c) k orElse 5) (dataIn (mode c) (c .panel .parameter) k written) k c a
       ∙ rw (g .run, g .paused, g .panel .parameter)
 
   -- "Write while running or paused to anything but 209 and 210: E005", whatever its data.
@@ -87,10 +87,10 @@ module _ (ms : List Made) (a : Areas) (address written : List ℕ) (arrived : Ar
   abbrev sentAll : List ℕ
   sentAll = text "CW" ++ (address ++ written)
 
-  abbrev AsTold : Type 0
-  AsTold = reply (seen ms (ending a)) ≡ ended (okOr (dueThen (told ms) written))
+  abbrev IsDue : Type 0
+  IsDue = reply (seen ms (ending a)) ≡ ended (okOr (dueThen (told ms) written))
 
-  short-answered : length sentAll ≤ mostChars → AsTold
+  short-answered : length sentAll ≤ mostChars → IsDue
   unfolding dataIn _>>_ _orElse_
   short-answered few =
       let t = told ms in
@@ -100,7 +100,7 @@ module _ (ms : List Made) (a : Areas) (address written : List ℕ) (arrived : Ar
       (ap ended (done-says (specialIn now (t .parameter) written) ∙ ap okOr (special-alike (t .run .on) (t .paused) (t .parameter) written)))
 
   -- one of more than 32 characters is E002, and so are its data
-  long-answered : mostChars < length sentAll → AsTold
+  long-answered : mostChars < length sentAll → IsDue
   unfolding commandOf text _>>=_
   long-answered many =
       let t = told ms in
@@ -118,6 +118,6 @@ module _ (ms : List Made) (a : Areas) (address written : List ℕ) (arrived : Ar
   pub specials-answered : reply (seen ms (ending a)) ≡ ended (okOr (dueThen (told ms) written))
   specials-answered = go (leb (length sentAll) mostChars) refl
     where
-      go : (b : Bool) → leb (length sentAll) mostChars ≡ b → AsTold
+      go : (b : Bool) → leb (length sentAll) mostChars ≡ b → IsDue
       go true e = short-answered (leb-true _ _ e)
       go false e = long-answered (leb-false _ _ e)
