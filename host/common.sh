@@ -5,7 +5,7 @@ host=$(CDPATH='' cd -- "$(dirname -- "${BASH_SOURCE[0]}")" && pwd)
 top=$(dirname "$host")
 out=$top/target/host
 archive=$top/target/staticlib/libnizhalepu.a
-damages=26 # the errors that independent/ can be built with
+damages=32 # the errors that independent/ can be built with
 
 fail() {
     echo "host/$(basename "$0"): $*" >&2

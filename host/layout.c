@@ -114,11 +114,12 @@ static void press(uint32_t button) {
     check_said(nizhalepu_press(&box.record, button, program, sizeof program, log_area, LOG), 0, 0, 0);
 }
 
-/* Power-on over a record that holds the same byte everywhere, with a saved copy and program of zeros. */
+/* Power-on over a record that holds the same byte everywhere, with a saved copy of 200 end marks. */
 static void power_on(int fill) {
     moment = "power-on";
     memset(&box.record, fill, sizeof box.record);
-    memset(saved, 0, sizeof saved);
+    for (size_t i = 0; i < sizeof saved; i++)
+        saved[i] = i % 8 == 0 ? 0x53 : 0;
     check_said(nizhalepu_power_on(&box.record, program, sizeof program, saved, sizeof saved, log_area, LOG), 0, 0, 0);
 }
 

@@ -2,8 +2,8 @@
  *
  * Link with target/staticlib/libnizhalepu.a (x86-64), which `rt staticlib nizhalepu` proves and makes; all
  * that it needs of a C library is memcpy. The rules are those of document 01 and of document 02, items 1 (the
- * log as text), 2 (a loop of none) and 3 (why a special command was not taken); the Rattle source of these
- * calls, with their contracts, is crates/nizhalepu/src/lib.rt.
+ * log as text), 2 (a loop of none), 3 (why a special command was not taken) and 4 (a bad stored line); the
+ * Rattle source of these calls, with their contracts, is crates/nizhalepu/src/lib.rt.
  *
  * Who owns what. The caller owns the record and every area. The library keeps no pointer, allocates
  * nothing, has no data of its own but constants and calls nothing back; each call ends.
@@ -68,7 +68,23 @@ enum {
     NIZHALEPU_E_NEEDS_STOP = 20,       /* 003, 005-008 while a program runs or is paused: likewise; a paused one that is to go on: 004 */
     NIZHALEPU_E_NEEDS_PAUSE = 21,      /* 004, and none is paused: nothing, if one runs; else start it, if it is to run */
     NIZHALEPU_E_NOTHING_TO_PAUSE = 22, /* 002, and none runs: read 211 and 212 for where and how the last one stopped */
-    NIZHALEPU_E_OUT_OF_REACH = 23      /* 209 is above 199 for 005, above 200 for 006: write 209 and send it again */
+    NIZHALEPU_E_OUT_OF_REACH = 23,     /* 209 is above 199 for 005, above 200 for 006: write 209 and send it again */
+    /* at a read of 000-199, and nowhere else */
+    NIZHALEPU_E_BAD_LINE = 24          /* what stands there is no line: write it, or load a sound copy; I and D stay before it */
+};
+
+/* ---- events: the number in 212, 0 once it was read, and the line that 211 then shows. All but the power-on are stops. */
+
+enum {
+    NIZHALEPU_EVENT_BUSY = 6,      /* on a For: its counter is busy */
+    NIZHALEPU_EVENT_NO_NEXT = 7,   /* on a For: no later line is a Next of its counter */
+    NIZHALEPU_EVENT_NO_FOR = 8,    /* on a Next: its counter is not busy */
+    NIZHALEPU_EVENT_PAST_LAST = 9, /* on line 199: the program went on past it */
+    NIZHALEPU_EVENT_BUTTON = 10,   /* on the line that was held: Start/Stop was pressed */
+    NIZHALEPU_EVENT_END = 11,      /* on a State with time 0: the program is at its end */
+    NIZHALEPU_EVENT_POWER_ON = 12, /* on line 000 */
+    NIZHALEPU_EVENT_TOO_LONG = 13, /* on the For or Next that would have been the 401st in one call */
+    NIZHALEPU_EVENT_BAD_LINE = 14  /* on a Bad line, eight bytes that are no line: damage, and not the program's end */
 };
 
 /* ---- the record: 120 bytes. Its fields are the library's; host/layout.c holds them to the archive. */
@@ -128,7 +144,7 @@ struct nizhalepu_said {
 /* ---- the five calls. A refused call leaves every lent byte as it was, and the record too, except
  * that a refused power-on makes a record on which every later call is refused. */
 
-/* Power-on. The program area takes the saved copy, cleaned; saved copy and log are only read. */
+/* Power-on. The program area takes the saved copy as it is, damaged or not; saved copy and log are only read. */
 struct nizhalepu_said nizhalepu_power_on(struct nizhalepu_record *record,
                                          uint8_t *program, size_t program_length,
                                          const uint8_t *saved, size_t saved_length,

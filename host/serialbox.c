@@ -32,6 +32,8 @@ static const char usage[] =
     "  empty  empties the log into its file now\n"
     "  quit   ends the box\n"
     "\n"
+    "When the saved copy is loaded, at the start and by command 007, a message names its Bad lines: a program that\n"
+    "comes to one stops there with event 014. All 200 lines of a missing file are Bad.\n"
     "The log is also emptied before a change would be lost, and at the end. The end of standard input does not\n"
     "end the box: it goes on without buttons. SIGINT, SIGTERM and SIGHUP end it as quit does; under nohup\n"
     "SIGHUP does not.\n"
@@ -40,7 +42,7 @@ static const char usage[] =
 static const int64_t second = 1000000000, tick_time = 100000000; /* in nanoseconds */
 
 static struct nizhalepu_record record;
-static uint8_t program[NIZHALEPU_PROGRAM], saved[NIZHALEPU_PROGRAM], saved_in_file[NIZHALEPU_PROGRAM];
+static uint8_t program[NIZHALEPU_PROGRAM], saved[NIZHALEPU_PROGRAM];
 static uint8_t log_area[NIZHALEPU_LOG_MOST], emptied[NIZHALEPU_LOG_MOST];
 static size_t log_length = NIZHALEPU_LOG_MOST;
 static struct saved_file saved_file;
@@ -106,6 +108,23 @@ static struct timespec until_tick(void) {
 
 /* ---- the wire */
 
+enum { SPECIAL = 210, LOAD = 7, SAVE = 8 }; /* the variable, and the two commands that reach the saved copy */
+
+/* The special command that this reply accepts, 0 where it accepts none. Only a write is answered with OK, and the box has then taken
+ * its address for the last one written, and a special command for the last one accepted. */
+static uint8_t special_accepted(const uint8_t *reply, size_t written) {
+    bool ok = written == 3 && memcmp(reply, "OK\r", 3) == 0;
+    return ok && record.wire.nextwrite == SPECIAL + 1 ? record.panel.special : 0;
+}
+
+/* Traffic brings this message about, and must not make the box wait for whoever reads it: a standard error that takes no more now is
+ * full of messages that nobody has read, and gets none. */
+static void tell_load(void) {
+    struct pollfd messages = {.fd = STDERR_FILENO, .events = POLLOUT};
+    if (poll(&messages, 1, 0) > 0)
+        saved_tell(&saved_file, saved, sizeof saved);
+}
+
 /* A reply goes out when what it tells of is kept: the saved copy in its file, and the log where it had to be emptied. */
 static bool take_byte(uint8_t byte) {
     uint8_t reply[NIZHALEPU_REPLY];
@@ -113,11 +132,11 @@ static bool take_byte(uint8_t byte) {
                                                 reply, sizeof reply);
     if (!accepted("a byte", said))
         return false;
-    if (memcmp(saved, saved_in_file, sizeof saved) != 0) {
-        if (!saved_write(&saved_file, saved, sizeof saved))
-            return false;
-        memcpy(saved_in_file, saved, sizeof saved);
-    }
+    uint8_t special = special_accepted(reply, said.written);
+    if (special == LOAD)
+        tell_load();
+    if (special == SAVE && !saved_write(&saved_file, saved, sizeof saved))
+        return false;
     if (!keep_room())
         return false;
     if (said.written == 0)
@@ -318,10 +337,10 @@ static bool switch_on(void) {
     if (!saved_open(&saved_file, options.saved, saved, sizeof saved) ||
         !log_open(&log_file, options.log, NIZHALEPU_LOG_RECORD) || !line_open(&line))
         return false;
-    memcpy(saved_in_file, saved, sizeof saved);
     if (!accepted("power-on", nizhalepu_power_on(&record, program, sizeof program, saved, sizeof saved, log_area, log_length)))
         return false;
     next_tick = now() + tick_time;
+    saved_tell(&saved_file, saved, sizeof saved);
     if (options.link != NULL && !link_make(options.link, line.name))
         return false;
     if (printf("%s\n", line.name) >= 0 && fflush(stdout) == 0)

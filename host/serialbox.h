@@ -12,14 +12,19 @@ void say_failed(const char *what, const char *name);
 /* ---- the files (serialbox_files.c); false means that a message was given and the box must end */
 
 struct saved_file {
+    const char *name;           /* as the caller gave it */
     char *path, *next, *folder; /* the file, the one that is to take its place (FILE.NUMBER.new), and the folder of both */
+    bool there;                 /* false: no file yet, and the saved copy is all zero */
 };
 
 /* Reads the saved copy; all zero where there is no file. A file of another length is an error and stays as it is. */
-bool saved_open(struct saved_file *file, const char *path, uint8_t *saved, size_t length);
+bool saved_open(struct saved_file *file, const char *name, uint8_t *saved, size_t length);
+
+/* Says on standard error, in one line, which lines of the saved copy are Bad, or that there is no file; nothing where none is Bad. */
+void saved_tell(const struct saved_file *file, const uint8_t *saved, size_t length);
 
 /* Replaces the file as a whole: a crash at any moment leaves the old one or the new one. */
-bool saved_write(const struct saved_file *file, const uint8_t *saved, size_t length);
+bool saved_write(struct saved_file *file, const uint8_t *saved, size_t length);
 
 struct log_file {
     const char *path;

@@ -65,13 +65,14 @@ static bool sync_folder(const char *folder) {
 
 /* The names of the file. A link is followed now: taking its place would leave the file that it points to as it was. The file that
  * takes the place has the number of this process in its name: two boxes with one saved copy never write into one file. */
-static bool name_files(struct saved_file *file, const char *path) {
-    file->path = realpath(path, NULL);
-    if (file->path == NULL && errno == ENOENT && path[0] != 0 && path[strlen(path) - 1] != '/')
-        file->path = strdup(path);
+static bool name_files(struct saved_file *file, const char *name) {
+    file->name = name;
+    file->path = realpath(name, NULL);
+    if (file->path == NULL && errno == ENOENT && name[0] != 0 && name[strlen(name) - 1] != '/')
+        file->path = strdup(name);
     if (file->path == NULL || asprintf(&file->next, "%s.%ld.new", file->path, (long)getpid()) < 0 ||
         (file->folder = folder_of(file->path)) == NULL) {
-        say_failed("cannot find", path);
+        say_failed("cannot find", name);
         return false;
     }
     if (access(file->folder, W_OK | X_OK) == 0)
@@ -81,27 +82,75 @@ static bool name_files(struct saved_file *file, const char *path) {
 }
 
 /* Opened without waiting: a pipe that nobody writes is a file that is too short. */
-bool saved_open(struct saved_file *file, const char *path, uint8_t *saved, size_t length) {
+bool saved_open(struct saved_file *file, const char *name, uint8_t *saved, size_t length) {
     uint8_t one_more;
     size_t count, more = 0;
     memset(saved, 0, length);
-    if (!name_files(file, path))
+    if (!name_files(file, name))
         return false;
     int descriptor = open(file->path, O_RDONLY | O_NONBLOCK | O_CLOEXEC);
-    if (descriptor < 0 && errno == ENOENT) {
-        fprintf(stderr, "serialbox: no saved copy in %s: it starts as all zero\n", path);
+    file->there = descriptor >= 0 || errno != ENOENT;
+    if (!file->there)
         return true;
-    }
     if (descriptor < 0 || !read_all(descriptor, saved, length, &count) || !read_all(descriptor, &one_more, 1, &more)) {
-        say_failed("cannot read the saved copy", path);
+        say_failed("cannot read the saved copy", name);
         return false;
     }
     close(descriptor);
     if (count == length && more == 0)
         return true;
-    fprintf(stderr, "serialbox: the saved copy %s is %s than %zu bytes; it is left as it is\n", path, more ? "longer" : "shorter",
+    fprintf(stderr, "serialbox: the saved copy %s is %s than %zu bytes; it is left as it is\n", name, more ? "longer" : "shorter",
             length);
     return false;
+}
+
+enum { LINE_BYTES = 8 };
+
+/* Document 01: "A line is 8 bytes. State: 53 00 X4 X3 X2 X1 and the time, high byte first. For: 46, counter, count high byte first,
+ * four zeros. Next: 4E, counter, six zeros. Times and counts are at most 9999." A counter is 1-4. Document 02, item 4: "Reading eight
+ * bytes now answers State, For, Next or Bad", which is what is none of the three. */
+static bool is_bad(const uint8_t *line) {
+    static const uint8_t zeros[6] = {0};
+    const int most = 9999;
+    bool counter = line[1] >= 1 && line[1] <= 4;
+    switch (line[0]) {
+    case 0x53: return line[1] != 0 || (line[6] << 8 | line[7]) > most;
+    case 0x46: return !counter || (line[2] << 8 | line[3]) > most || memcmp(line + 4, zeros, 4) != 0;
+    case 0x4E: return !counter || memcmp(line + 2, zeros, 6) != 0;
+    default: return true;
+    }
+}
+
+/* The first line from `line` on that is Bad, or that is not; the number of lines where there is none. */
+static size_t find(bool bad, const uint8_t *saved, size_t lines, size_t line) {
+    while (line < lines && is_bad(saved + LINE_BYTES * line) != bad)
+        line++;
+    return line;
+}
+
+/* The Bad lines as text, consecutive ones joined: 012, 014-016. Each adds at most five characters. */
+static void list_bad(const uint8_t *saved, size_t lines, char *text) {
+    const char *between = "";
+    *text = 0;
+    for (size_t end, first = find(true, saved, lines, 0); first < lines; first = find(true, saved, lines, end)) {
+        end = find(false, saved, lines, first);
+        text += sprintf(text, "%s%03zu", between, first);
+        if (end - first > 1)
+            text += sprintf(text, "-%03zu", end - 1);
+        between = ", ";
+    }
+}
+
+/* A line of text in one write, so that no other program's comes into it. */
+void saved_tell(const struct saved_file *file, const uint8_t *saved, size_t length) {
+    size_t lines = length / LINE_BYTES;
+    char bad[5 * lines + 1];
+    list_bad(saved, lines, bad);
+    if (!file->there)
+        fprintf(stderr, "serialbox: no saved copy in %s: a line is Bad until it is written, and a program that comes to a Bad line "
+                        "stops there with event 014\n", file->name);
+    else if (bad[0] != 0)
+        fprintf(stderr, "serialbox: %s has Bad lines, where a program stops with event 014: %s\n", file->name, bad);
 }
 
 static bool write_next(const struct saved_file *file, const uint8_t *saved, size_t length) {
@@ -111,9 +160,11 @@ static bool write_next(const struct saved_file *file, const uint8_t *saved, size
 }
 
 /* The bytes are on the disk before the name is theirs, and the name before anyone is told. */
-bool saved_write(const struct saved_file *file, const uint8_t *saved, size_t length) {
-    if (write_next(file, saved, length) && rename(file->next, file->path) == 0 && sync_folder(file->folder))
+bool saved_write(struct saved_file *file, const uint8_t *saved, size_t length) {
+    if (write_next(file, saved, length) && rename(file->next, file->path) == 0 && sync_folder(file->folder)) {
+        file->there = true;
         return true;
+    }
     say_failed("cannot write the saved copy", file->path);
     unlink(file->next);
     return false;

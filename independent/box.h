@@ -15,10 +15,15 @@ struct box_said {
 
 size_t box_size(void);
 
-/* For the report of a comparison alone: the loops of none that were passed since power-on, and those of them whose Next is line 199. */
+/*
+ * For the report of a comparison alone: the loops of none that were passed since power-on, and those of them whose Next is line 199; of the
+ * last one passed the lines of its For and its Next.
+ */
 struct box_nones {
     uint32_t passed;
     uint32_t past_199;
+    uint8_t last_for;
+    uint8_t last_next;
 };
 
 struct box_nones box_loops_of_none(const struct box *box);

@@ -9,7 +9,7 @@
 #include "box.h"
 
 /*
- * DAMAGE 0 is the box and the reader of its log; 1 to 10 and 18 to 26 give the box, 11 to 17 the reader one known error each, to see
+ * DAMAGE 0 is the box and the reader of its log; 1 to 10 and 18 to 32 give the box, 11 to 17 the reader one known error each, to see
  * that a comparison finds it.
  */
 #ifndef DAMAGE
@@ -48,7 +48,8 @@ enum { /* events of variable 212 */
     EVENT_BUTTON = 10,
     EVENT_END = 11,
     EVENT_POWER_ON = 12,
-    EVENT_TOO_LONG = 13
+    EVENT_TOO_LONG = 13,
+    EVENT_BAD_LINE = 14 /* 02, item 4 */
 };
 
 enum { /* error replies; 0 is no error */
@@ -61,7 +62,9 @@ enum { /* error replies; 0 is no error */
     E_NEEDS_STOP = 20,
     E_NEEDS_PAUSE = 21,
     E_NOTHING_TO_PAUSE = 22,
-    E_OUT_OF_REACH = 23
+    E_OUT_OF_REACH = 23,
+    /* 02, item 4: at a read of a line */
+    E_BAD_LINE = 24
 };
 
 enum { CAUSE_SINGLE = 254, CAUSE_WRITE = 255 }; /* other causes are line numbers */
@@ -86,16 +89,16 @@ struct box {
     uint8_t special;
     uint8_t last_read;            /* last addresses, 216 at most */
     uint8_t last_write;
-    uint8_t single[LINE_BYTES];   /* line 200 */
+    uint8_t single[LINE_BYTES];   /* line 200: an end mark or what an accepted write left, so never Bad */
     bool overlong;
     uint8_t collected;
     uint8_t command[COMMAND_MOST];
 };
 
-enum { LINE_STATE, LINE_FOR, LINE_NEXT };
+enum { LINE_STATE, LINE_FOR, LINE_NEXT, LINE_BAD };
 
 struct line {
-    uint8_t kind;
+    uint8_t kind;      /* Bad has nothing more */
     uint8_t counter;   /* For and Next: 0-3 for counters 1-4 */
     uint16_t number;   /* State: time. For: count */
     uint32_t outputs;  /* State */
@@ -140,7 +143,6 @@ void box_set_outputs(struct box *box, uint32_t outputs, uint8_t cause, uint8_t *
 
 /* line.c */
 struct line box_read_line(const uint8_t *bytes);
-void box_copy_cleaned(uint8_t *to, const uint8_t *from);
 void box_stop_with(struct box *box, uint8_t event);
 uint16_t box_start(struct box *box, unsigned line, const uint8_t *program, uint8_t *log);
 uint16_t box_run(struct box *box, unsigned due, const uint8_t *program, uint8_t *log);

@@ -3,8 +3,6 @@
 
 #include "internal.h"
 
-static const uint8_t end_mark[LINE_BYTES] = {'S'};
-
 static bool is_counter(uint8_t number)
 {
     return number >= 1 && number <= COUNTERS;
@@ -25,14 +23,15 @@ static bool is_line(const uint8_t *bytes)
     }
 }
 
-/* Eight bytes that are no line count as a State with outputs 0 and time 0 wherever they are read. */
+/* "Reading eight bytes now answers State, For, Next or Bad" (02, item 4). */
 struct line box_read_line(const uint8_t *bytes)
 {
-    struct line line = {LINE_STATE, 0, 0, 0};
+    struct line line = {LINE_BAD, 0, 0, 0};
 
     if (!is_line(bytes))
         return line;
     if (bytes[0] == 'S') {
+        line.kind = LINE_STATE;
         line.number = (uint16_t)two_bytes(bytes + 6);
         line.outputs = four_bytes(bytes + 2);
         return line;
@@ -41,13 +40,6 @@ struct line box_read_line(const uint8_t *bytes)
     line.counter = (uint8_t)(bytes[1] - 1);
     line.number = (uint16_t)two_bytes(bytes + 2);
     return line;
-}
-
-/* The cleaned form in which power-on and 007 load and 008 saves; the source stays as it was. */
-void box_copy_cleaned(uint8_t *to, const uint8_t *from)
-{
-    for (size_t at = 0; at < PROGRAM_BYTES; at += LINE_BYTES)
-        memcpy(to + at, is_line(from + at) ? from + at : end_mark, LINE_BYTES);
 }
 
 /* Stop frees the loops and keeps outputs and line. */
@@ -82,7 +74,10 @@ static void run_state(struct box *box, const struct line *state, uint8_t *log)
         box_stop_with(box, EVENT_END);
 }
 
-/* The first later line that is a Next of this counter, or LINES. The bytes of a Next are fixed, so compare all eight. */
+/*
+ * The first later line that is a Next of this counter, or LINES. The bytes of a Next are fixed, so compare all eight; any other line is
+ * passed, a Bad one too ("The search for a Next passes over it", 02, item 4).
+ */
 static unsigned next_below(const uint8_t *program, unsigned line, unsigned counter)
 {
     const uint8_t next[LINE_BYTES] = {'N', (uint8_t)(counter + 1)};
@@ -90,9 +85,14 @@ static unsigned next_below(const uint8_t *program, unsigned line, unsigned count
 #if DAMAGE == 9
     line++;
 #endif
-    for (line++; line < LINES; line++)
+    for (line++; line < LINES; line++) {
         if (memcmp(program + line * LINE_BYTES, next, LINE_BYTES) == 0)
             return line;
+#if DAMAGE == 32
+        if (box_read_line(program + line * LINE_BYTES).kind == LINE_BAD)
+            return LINES;
+#endif
+    }
     return LINES;
 }
 
@@ -101,6 +101,8 @@ static unsigned pass_over(struct box *box, unsigned next)
 {
     box->nones.passed++;
     box->nones.past_199 += next == LINES - 1;
+    box->nones.last_for = box->line;
+    box->nones.last_next = (uint8_t)next;
 #if DAMAGE == 18
     return next;
 #endif
@@ -181,6 +183,37 @@ static uint8_t run_next(struct box *box, const struct line *line, const uint8_t 
 }
 
 /*
+ * Runs the For or Next on the present line, whose number *due is, and makes *due the line that follows; *run counts such lines in this
+ * call. Answers as run_for.
+ */
+static uint8_t run_loop(struct box *box, const struct line *line, const uint8_t *program, unsigned *due, uint16_t *run)
+{
+    /* The 401st is not run, but it is where the program stopped: 211 shows it. */
+    if (*run == RUN_MOST)
+        return EVENT_TOO_LONG;
+    ++*run;
+    ++*due;
+    return line->kind == LINE_FOR ? run_for(box, line, program, due) : run_next(box, line, program, due);
+}
+
+/*
+ * "Running a Bad line stops with event 014 at that line" (02, item 4). It is neither For nor Next: it is not counted, and due after 400
+ * lines it is no 401st.
+ */
+static uint8_t run_bad(uint16_t run)
+{
+    (void)run; /* whatever number was run before it */
+#if DAMAGE == 30
+    if (run == RUN_MOST)
+        return EVENT_TOO_LONG;
+#endif
+#if DAMAGE == 31
+    return EVENT_END;
+#endif
+    return EVENT_BAD_LINE;
+}
+
+/*
  * Runs the lines that fall due in this call, from line `due` on, until a State is held or the program stops.
  * Answers the number of For and Next lines run, those that end in 006, 007 or 008 among them, and so too a Next
  * and a loop of none that go on past 199.
@@ -188,44 +221,30 @@ static uint8_t run_next(struct box *box, const struct line *line, const uint8_t 
 uint16_t box_run(struct box *box, unsigned due, const uint8_t *program, uint8_t *log)
 {
     uint16_t run = 0;
+    uint8_t event = 0;
 
-    for (;;) {
-        struct line line;
-        uint8_t event;
+    /* Past 199 no line is due, so a 400th Next on line 199 that goes on gives 009 and not 013. */
+    while (event == 0 && due < LINES) {
+        const struct line line = box_read_line(program + due * LINE_BYTES);
 
-        /*
-         * Going on past 199: the line is 199, also where a loop of none further up passed its Next there. This comes
-         * before the bound of 400: past 199 no line is due, so a 400th Next on line 199 that goes on gives 009 and not 013.
-         */
-        if (due == LINES) {
-#if DAMAGE != 21
-            box->line = LINES - 1;
-#endif
-            box_stop_with(box, EVENT_PAST_LAST);
-            return run;
-        }
         box->line = (uint8_t)due;
-        line = box_read_line(program + due * LINE_BYTES);
         if (line.kind == LINE_STATE) {
             run_state(box, &line, log);
             return run;
         }
-        /* The 401st is not run, but it is where the program stopped: 211 shows it. */
-        if (run == RUN_MOST) {
-            box_stop_with(box, EVENT_TOO_LONG);
-            return run;
-        }
-        run++;
-        due++;
-        event = line.kind == LINE_FOR ? run_for(box, &line, program, &due) : run_next(box, &line, program, &due);
-        if (event != 0) {
-            box_stop_with(box, event);
-            return run;
-        }
+        event = line.kind == LINE_BAD ? run_bad(run) : run_loop(box, &line, program, &due, &run);
     }
+    if (event == 0) {
+        event = EVENT_PAST_LAST;
+#if DAMAGE != 21
+        box->line = LINES - 1; /* "line stays 199", also where a loop of none further up passed its Next there */
+#endif
+    }
+    box_stop_with(box, event);
+    return run;
 }
 
-/* 006: a State sets the outputs; neither the line of 211 nor the event moves. For and Next do nothing. */
+/* 006: a State sets the outputs; neither the line of 211 nor the event moves. For and Next do nothing, and so a Bad line (02, item 4). */
 static void execute_one(struct box *box, const uint8_t *program, uint8_t *log)
 {
     const unsigned at = box->parameter;
@@ -315,11 +334,11 @@ unsigned box_special_command(struct box *box, unsigned code, const struct lent *
     case 6:
         execute_one(box, lent->program, lent->log);
         break;
-    case 7:
-        box_copy_cleaned(lent->program, lent->saved);
+    case 7: /* "Load and save copy the bytes unaltered" (02, item 4) */
+        memcpy(lent->program, lent->saved, PROGRAM_BYTES);
         break;
     default:
-        box_copy_cleaned(lent->saved, lent->program);
+        memcpy(lent->saved, lent->program, PROGRAM_BYTES);
         break;
     }
     return 0;

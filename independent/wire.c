@@ -74,7 +74,7 @@ static uint8_t *put_hex(uint8_t *to, unsigned value)
 
 /* ---- reading ---- */
 
-/* `S 00 X4 X3 X2 X1 TTTT`, `F C XXXX`, `N C`. Bytes that are no line show as the State they count as. */
+/* `S 00 X4 X3 X2 X1 TTTT`, `F C XXXX`, `N C`. A Bad line has no wire form and does not come here. */
 static uint8_t *put_line(uint8_t *to, const uint8_t *bytes)
 {
     const struct line line = box_read_line(bytes);
@@ -132,6 +132,24 @@ static uint8_t *put_variable(struct box *box, unsigned address, const uint8_t *p
     default: /* 202 and 207 */
         return put_hex(to, 0);
     }
+}
+
+/* Of the program alone: what 200 holds is never Bad. */
+static bool names_bad_line(unsigned address, const uint8_t *program)
+{
+    return address < LINES && box_read_line(program + address * LINE_BYTES).kind == LINE_BAD;
+}
+
+/* 02, item 4: "reading a Bad line over the wire answers E024, after the length check". 0 where the variable can be shown. */
+static unsigned cannot_read(const struct command *command, const uint8_t *program)
+{
+#if DAMAGE == 28
+    if (names_bad_line(command->address, program))
+        return E_BAD_LINE;
+#endif
+    if (command->length != 0)
+        return E_FORM;
+    return names_bad_line(command->address, program) ? E_BAD_LINE : 0;
 }
 
 /* ---- writing: checks 5 and 6, each answering 0 or the error ---- */
@@ -272,7 +290,7 @@ static bool write_locked(const struct box *box, unsigned address)
     return box->mode != STOPPED && address != V_PARAMETER && address != V_SPECIAL;
 }
 
-/* Puts the reply without its 13 and answers its end. The last address moves only where there is no error. */
+/* Puts the reply without its 13 and answers its end. The last address moves only where there is no error, E024 among them. */
 static uint8_t *answer(struct box *box, const struct lent *lent, uint8_t *reply, uint16_t *lines)
 {
     struct command command;
@@ -283,14 +301,18 @@ static uint8_t *answer(struct box *box, const struct lent *lent, uint8_t *reply,
         *(command.write ? &box->last_write : &box->last_read) = (uint8_t)command.address;
 #endif
     if (error == 0 && !command.write) {
-        if (command.length == 0) {
+        error = cannot_read(&command, lent->program);
+        if (error == 0) {
             box->last_read = (uint8_t)command.address;
             return put_variable(box, command.address, lent->program, reply);
         }
-        error = E_FORM;
-    }
-    if (error == 0)
+#if DAMAGE == 29
+        if (error == E_BAD_LINE)
+            box->last_read = (uint8_t)command.address;
+#endif
+    } else if (error == 0) {
         error = write_locked(box, command.address) ? E_LOCKED : write_variable(box, &command, lent, lines);
+    }
     if (error != 0) {
         *reply = 'E';
         return put_decimal(reply + 1, error, 3);

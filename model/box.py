@@ -9,7 +9,7 @@ sizes, so neither the log nor the refusals 030-035 are modelled.
 DIGITS, HEX = set("0123456789"), set("0123456789ABCDEF")
 STOPPED, PAUSED, RUNNING = 0, 1, 2
 READ_ONLY = (201, 202, 207, 208, 211, 212, 213, 214, 215, 216)
-END_MARK = ("S", 0, 0)
+END_MARK, BAD = ("S", 0, 0), ("Bad",)
 
 # Special commands: the code, then whether Stop, Pause and Auto allow it.
 ALLOWED = {1: (1, 1, 1), 2: (0, 1, 1), 3: (1, 0, 0), 4: (0, 1, 0),
@@ -17,6 +17,9 @@ ALLOWED = {1: (1, 1, 1), 2: (0, 1, 1), 3: (1, 0, 0), 4: (0, 1, 0),
 
 # Document 02, item 3: where it is not allowed, the error says what the command needs; then that its parameter is out of reach.
 NEEDS_STOP, NEEDS_PAUSE, NOTHING_TO_PAUSE, OUT_OF_REACH = 20, 21, 22, 23
+
+# Document 02, item 4: "reading a Bad line over the wire answers E024".
+BAD_LINE = 24
 
 
 class WireError(Exception):
@@ -29,24 +32,24 @@ def need(condition, number):
 
 
 def decode(raw):
-    # Variables: a line is 8 bytes; eight bytes that are no line count as an end mark.
+    # Variables: a line is 8 bytes. 02, item 4: "Reading eight bytes now answers State, For, Next or Bad".
     count, time = raw[2] * 256 + raw[3], raw[6] * 256 + raw[7]
     if raw[0] == 0x53 and raw[1] == 0 and time <= 9999:
-        return ("S", int.from_bytes(bytes(raw[2:6]), "big"), time)
+        return ("S", int.from_bytes(raw[2:6], "big"), time)
     if raw[0] == 0x46 and 1 <= raw[1] <= 4 and count <= 9999 and not any(raw[4:]):
         return ("F", raw[1], count)
     if raw[0] == 0x4E and 1 <= raw[1] <= 4 and not any(raw[2:]):
         return ("N", raw[1])
-    return END_MARK
+    return BAD
 
 
 def encode(line):
     # Variables: the 8 bytes of State, For and Next, high bytes first.
     if line[0] == "S":
-        return [0x53, 0, *line[1].to_bytes(4, "big"), *line[2].to_bytes(2, "big")]
+        return bytes([0x53, 0]) + line[1].to_bytes(4, "big") + line[2].to_bytes(2, "big")
     if line[0] == "F":
-        return [0x46, line[1], *line[2].to_bytes(2, "big"), 0, 0, 0, 0]
-    return [0x4E, line[1], 0, 0, 0, 0, 0, 0]
+        return bytes([0x46, line[1]]) + line[2].to_bytes(2, "big") + bytes(4)
+    return bytes([0x4E, line[1]]) + bytes(6)
 
 
 def show(line):
@@ -68,10 +71,10 @@ def parse(data):
 
 class Box:
     def __init__(self):
+        # The bytes of lines 000-199, which power-on loads, and of 200, an end mark with outputs 0 at power-on.
+        self.saved = [bytes(8)] * 200
+        self.program = [*self.saved, encode(END_MARK)]
         # Running: power-on has outputs 0, stopped, line 000, parameter 0, event 012.
-        self.saved = [[0] * 8 for _ in range(200)]
-        # Variables: power-on and 007 load, and 008 saves, in cleaned form; line 200 apart.
-        self.program = [decode(raw) for raw in self.saved] + [END_MARK]
         self.state, self.line, self.outputs, self.ticks_left = STOPPED, 0, 0, 0
         self.counters, self.for_lines = [0] * 4, [0] * 4
         self.event, self.unread, self.parameter, self.special = 12, True, 0, 0
@@ -95,6 +98,16 @@ class Box:
         else:
             self.stop_with(10)
         return ""
+
+    def line_at(self, k):
+        return decode(self.program[k])
+
+    def load(self):
+        # 02, item 4: "Load and save copy the bytes unaltered".
+        self.program[:200] = self.saved
+
+    def save(self):
+        self.saved = self.program[:200]
 
     def stop(self):
         # Special commands: stop frees the loops and keeps outputs and line.
@@ -127,7 +140,10 @@ class Box:
     def run(self):
         # Running: lines run until a State holds the box or the program stops.
         while self.state == RUNNING:
-            line = self.program[self.line]
+            line = self.line_at(self.line)
+            if line == BAD:
+                # 02, item 4: "Running a Bad line stops with event 014 at that line"; being no For or Next, it is not counted.
+                return self.stop_with(14)
             if line[0] == "S":
                 # Running: a State sets all outputs at once; with time 0 it stops, 011.
                 self.outputs, self.ticks_left = line[1], line[2]
@@ -143,8 +159,8 @@ class Box:
                 self.go_on()
 
     def run_for(self, counter, count):
-        # Running: For with a busy counter is 006, without a later Next 007.
-        later = self.program[self.line + 1:200]
+        # Running: For with a busy counter is 006, without a later Next 007. 02, item 4: the search passes over a Bad line.
+        later = [self.line_at(k) for k in range(self.line + 1, 200)]
         if self.counters[counter - 1]:
             return self.stop_with(6)
         if ("N", counter) not in later:
@@ -202,7 +218,10 @@ class Box:
         need(not data, 2)
         # Variables: the formats of the table.
         if address <= 200:
-            return show(self.program[address])
+            # 02, item 4: a Bad line is refused after the length check.
+            line = self.line_at(address)
+            need(line != BAD, BAD_LINE)
+            return show(line)
         if 203 <= address <= 206:
             return "%02X" % (self.outputs >> 8 * (206 - address) & 255)
         if address >= 213:
@@ -218,7 +237,7 @@ class Box:
 
     def write(self, address, data):
         if address <= 200:
-            self.program[address] = parse(data)
+            self.program[address] = encode(parse(data))
         elif address <= 206:
             # Variables: a write to 203-206 alters its eight bits and no other bit.
             need(len(data) == 2, 2)
@@ -241,16 +260,16 @@ class Box:
         need(ALLOWED[code][self.state], {2: NOTHING_TO_PAUSE, 4: NEEDS_PAUSE}.get(code, NEEDS_STOP))
         need(self.parameter <= {5: 199, 6: 200}.get(code, 255), OUT_OF_REACH)
         self.special = code
-        # Special commands: what each does; 006 sets the outputs of a State line only.
+        # Special commands: what each does; 006 sets the outputs of a State line. 02, item 4: of a Bad line it "does nothing and answers OK".
         if code == 1:
             self.stop()
         elif code in (2, 4):
             self.state = PAUSED if code == 2 else RUNNING
         elif code in (3, 5):
             self.start(self.parameter if code == 5 else 0)
-        elif code == 6 and self.program[self.parameter][0] == "S":
-            self.outputs = self.program[self.parameter][1]
+        elif code == 6 and self.line_at(self.parameter)[0] == "S":
+            self.outputs = self.line_at(self.parameter)[1]
         elif code == 7:
-            self.program[:200] = [decode(raw) for raw in self.saved]
+            self.load()
         elif code == 8:
-            self.saved = [encode(line) for line in self.program[:200]]
+            self.save()

@@ -1,7 +1,7 @@
 """Scenarios of the refusals and the reply area."""
 
 from trial_script import (BLINK, END, GUARD, OUT, PROGRAM, SAVED, alter, byte, empty, fresh, lend, on, press,
-                          program, record, say, scenario, stands, tick)
+                          program, record, save_end_marks, say, scenario, stands, tick)
 
 
 # ---- Calls and what is lent.
@@ -10,6 +10,7 @@ from trial_script import (BLINK, END, GUARD, OUT, PROGRAM, SAVED, alter, byte, e
 def before_any_power_on():
     # "A refused power-on returns the power-on state with a log length of 0, so every later call on it is refused."
     refused_all()
+    save_end_marks()
     for which in (PROGRAM, SAVED):
         alter(which, 1600, GUARD)
     for op in "a?\0B\r":

@@ -5,6 +5,7 @@ Use: python3 corners.py INPUT OUTPUT.  The first file gets the bytes of the stan
 
 import sys
 
+import bad_corners  # its scenarios come first
 import wire_corners
 import running_corners
 import none_corners

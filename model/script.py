@@ -36,7 +36,7 @@ def program(*lines, at=0):
 def known(*lines, at=0):
     """Stopped at 000, all lines end marks, outputs 0, parameter 0, event read, 210 is 003; then the lines.
 
-    A scenario that saves a program puts the end marks back, so 007 always loads them.
+    The last scenario of bad_corners.py saved end marks; one that saves a program puts them back, so 007 always loads them.
     """
     say("CW210001^CW210007^CW210003^CR212^", "OK OK OK 011")
     say("CW209000^CW200%s^" % END, "OK OK")

@@ -4,8 +4,8 @@ Each record of the input is four bytes, op x hi lo.  P S L R lend the first n by
 saved, log and out buffers, where n stands in the last three bytes; A V G alter one byte of the program,
 saved and log buffers; o b t n e are the five calls, b with byte x, n with the button that stands in the
 last three bytes.  Each call prints its refusal number, For and Next lines run, bytes written, a sum of
-each whole buffer, and the bytes written.  What stands beside a call is read from document 01 and is
-asserted against the model in areas.py.
+each whole buffer, and the bytes written.  What stands beside a call is read from documents 01 and 02
+and is asserted against the model in areas.py.
 """
 
 from functools import lru_cache, reduce
@@ -111,8 +111,13 @@ def program(*lines, at=0):
     alter(PROGRAM, 8 * at, " ".join(lines))
 
 
+def save_end_marks():
+    """The caller writes end marks into the saved buffer. The first scenario does so, and one that alters them puts them back."""
+    alter(SAVED, 0, END * 200)
+
+
 def fresh(*lines, log=24, out=16, at=0):
-    """Right lengths, a power-on from a saved copy of end marks or zeros, then the lines."""
+    """Right lengths, a power-on, which loads the end marks of the saved copy, then the lines."""
     lend(1600, 1600, log, out)
     on()
     program(*lines, at=at)

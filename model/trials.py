@@ -1,12 +1,13 @@
 """Writes the input of the program `trials` and its expected output: trials.py INPUT OUTPUT.
 
 Here are the scenarios of the log, the program area, the saved copy and the lines run; those of the
-refusals are in call_trials.py.
+refusals are in call_trials.py, those of Bad lines in bad_trials.py.
 """
 
 import sys
 
 import call_trials  # its scenarios come first
+import bad_trials
 from trial_script import (BLINK, END, GUARD, LOG, OUT, PROGRAM, SAVED, alter, empty, fresh, lend, on, press,
                           printed, program, say, scenario, scenarios, sent, stands, tick)
 
@@ -162,7 +163,7 @@ def ticks_counted():
 
 @scenario
 def altered_program():
-    # "Eight bytes that are none of these count as a State with outputs 0 and time 0 wherever they are read."
+    # Each line is read when it falls due. 02, item 4: "Running a Bad line stops with event 014 at that line", and leaves the outputs.
     bad = ("5300000000FF2710", "5301000000FF0001", "4600000100000000", "4605000100000000", "4601271000000000",
            "4601000100000001", "4E00000000000000", "4E05000000000000", "4E01000000000001", "0000000000000000",
            "FFFFFFFFFFFFFFFF", "7300000000FF0001")
@@ -171,16 +172,18 @@ def altered_program():
         press(1)
         program("53000000 00FF0009", line)
         tick(times=2)
-        empty("1EE10100 00000000 00000001", "1EE10101 00000002 00000000")
+        empty("1EE10100 00000000 00000001")
         stands(PROGRAM, 8, line)
-    say("CR212", "011")
-    say("CR001", "S00000000000000")
+    say("CR212", "014")
+    say("CR211", "001")
+    say("CR206", "01")
+    say("CR001", "E024")
     fresh(*BLINK)
     press(1, lines=1)
     tick()
     program("4E010000 00000001", at=3)
     tick()
-    say("CR212", "011")
+    say("CR212", "014")
     press(1, lines=1)
     say("CR212", "007")
     # 02, item 2: a For with count 0000 passes over what only looks like a Next.
@@ -193,27 +196,26 @@ def altered_program():
 
 @scenario
 def load_and_save():
-    # "Power-on and command 007 load the saved copy in that cleaned form; 008 saves ... likewise cleaned, leaving the area."
-    dirty = "53000000000A270F 5300000000FF2710 4604270F00000000 4E04000000000000 4E04000001000000 0102030405060708"
-    clean = "53000000000A270F" + END + "4604270F00000000 4E04000000000000" + END + END
+    # 02, item 4: "Load and save copy the bytes unaltered"; power-on loads too, and 008 leaves the area as it was.
+    mixed = ("53000000000A270F", "5300000000FF2710", "4604270F00000000", "4E04000000000000", "4E04000001000000", "0102030405060708")
     lend(1600, 1600, 24, 16)
-    alter(SAVED, 0, dirty)
+    alter(SAVED, 0, "".join(mixed))
     alter(SAVED, 1592, "FFFFFFFFFFFFFFFF")
     on()
-    stands(PROGRAM, 0, clean)
-    stands(PROGRAM, 1592, END + GUARD)
-    stands(SAVED, 0, dirty)
+    stands(PROGRAM, 0, "".join(mixed) + END)
+    stands(PROGRAM, 1584, END + "FFFFFFFFFFFFFFFF" + GUARD)
+    stands(SAVED, 0, "".join(mixed) + END)
     program("11" * 8, "53000000 00070007")
     alter(SAVED, 8, "4602000000000000")
     say("CW210007", "OK")
-    stands(PROGRAM, 0, "53000000000A270F 4602000000000000")
+    stands(PROGRAM, 0, mixed[0] + "4602000000000000" + "".join(mixed[2:]) + END)
     stands(SAVED, 1592, "FFFFFFFFFFFFFFFF" + GUARD)
     program("22" * 8, "53000000 00070007", at=198)
     say("CW210008", "OK")
     stands(PROGRAM, 1584, "22" * 8 + "53000000 00070007" + GUARD)
-    stands(SAVED, 1584, END + "53000000 00070007" + GUARD)
-    alter(SAVED, 0, " ".join(["00" * 8] * 6))
-    alter(SAVED, 1592, "00" * 8)
+    stands(SAVED, 1584, "22" * 8 + "53000000 00070007" + GUARD)
+    alter(SAVED, 0, END * 6)
+    alter(SAVED, 1584, END * 2)
     press(1)
     say("CW210007", "E020")
     fresh()

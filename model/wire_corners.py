@@ -1,21 +1,9 @@
-"""Scenarios of power-on, the wire and the variables."""
+"""Scenarios of the wire and the variables."""
 
 from script import END, LONG, box, enter, known, program, say, scenario, stopped_by
 
 
-# ---- Power-on and the paper's own points. These come first: power-on is not repeated.
-
-@scenario
-def power_on():
-    # "CRI after power-on reads address 001"; "13 alone, E001"; "first read of 201 is 80, of 212 is 012".
-    say("^CR^CRI^", "E001 E001 " + END)
-    say("CR210^CR201^CR212^CR201^CR212^", "000 80 012 00 000")
-    # Power-on loads the saved copy cleaned: all zero bytes read as end marks.
-    say("CR000^CR199^CR200^", " ".join([END] * 3))
-    # The last written address is 000 as well; 007 cleans too, and 008 saves what then stands.
-    say("CWIN1^CR001^CW210007^CR001^CW210008^CW210007^CR001^", "OK N1 OK %s OK OK %s" % (END, END))
-    say("CR203^CR204^CR205^CR206^CR209^CR211^CR213^CR216^", "00 00 00 00 000 000 0000 0000")
-
+# ---- The paper's own points.
 
 @scenario
 def bench_example():

@@ -106,6 +106,18 @@ static unsigned near_line(struct maker *maker)
     return line < 200 ? line : 199;
 }
 
+/* Of the program area as it now stands: the first Bad line from some line on, 000 coming after 199; that line itself if there is none. */
+static unsigned bad_line(struct maker *maker)
+{
+    const uint8_t *program = maker->both->area[PROVED][PROGRAM];
+    unsigned from = chance_one_in(&maker->chance, 2) ? near_line(maker) : chance_below(&maker->chance, 200);
+    for (unsigned n = 0; n < 200; n++) {
+        unsigned line = (from + n) % 200;
+        if (line_is_bad(program + line * LINE_BYTES)) return line;
+    }
+    return from;
+}
+
 /* Most often an address with a meaning; the bounds often. */
 static unsigned any_address(struct maker *maker)
 {
@@ -190,12 +202,52 @@ void say_read(struct maker *maker)
     say(maker, UNDAMAGED, "CR%03u", addresses[chance_below(&maker->chance, sizeof addresses)]);
 }
 
+/* A walk of reads does not pass a Bad line, and that of writes leaves none. */
 void say_walk(struct maker *maker)
 {
     struct chance *chance = &maker->chance;
-    char onward = chance_one_in(chance, 2) ? 'I' : 'D';
-    say(maker, UNDAMAGED, "CR%03u", chance_below(chance, 217));
-    for (unsigned n = chance_between(chance, 1, 20); n > 0; n--) say(maker, UNDAMAGED, "CR%c", onward);
+    char onward = chance_one_in(chance, 2) ? 'I' : 'D', data[LINE_TEXT] = "";
+    bool write = chance_one_in(chance, 4);
+    if (write) line_data(maker, data);
+    say(maker, UNDAMAGED, "C%c%03u%s", write ? 'W' : 'R', chance_below(chance, write ? 201 : 217), data);
+    for (unsigned n = chance_between(chance, 1, 20); n > 0; n--) {
+        if (write) line_data(maker, data);
+        say(maker, UNDAMAGED, "C%c%c%s", write ? 'W' : 'R', onward, data);
+    }
+}
+
+/* A Bad line that stands there, or one that the caller puts there. I and D come to it from the line beside it, if that one is read; what is
+ * read last shows whether the address moved. */
+void say_bad(struct maker *maker)
+{
+    struct chance *chance = &maker->chance;
+    uint8_t line[LINE_BYTES];
+    unsigned at = bad_line(maker);
+    if (chance_one_in(chance, 2)) {
+        line_bad(line, chance);
+        alter_line(maker, PROGRAM, at, line);
+    }
+    switch (chance_below(chance, 6)) {
+    case 0:
+        say(maker, UNDAMAGED, "CR%03u", at > 0 ? at - 1 : 0);
+        say(maker, UNDAMAGED, chance_one_in(chance, 4) ? "CRI0" : "CRI");
+        break;
+    case 1:
+        say(maker, UNDAMAGED, "CR%03u", at + 1);
+        say(maker, UNDAMAGED, chance_one_in(chance, 4) ? "CRD0" : "CRD");
+        break;
+    case 2:
+        say(maker, UNDAMAGED, "CR%03u%c", at, "0SI"[chance_below(chance, 3)]); /* a character left over */
+        break;
+    case 3:
+        say(maker, UNDAMAGED, "CR%03u", at);
+        break;
+    default:
+        say(maker, UNDAMAGED, "CW209%03u", at);
+        say(maker, UNDAMAGED, "CW210006");
+        return;
+    }
+    if (chance_one_in(chance, 2)) say(maker, UNDAMAGED, chance_one_in(chance, 2) ? "CRI" : "CRD");
 }
 
 void say_special(struct maker *maker)
@@ -212,10 +264,11 @@ void say_single(struct maker *maker)
 {
     struct chance *chance = &maker->chance;
     char data[LINE_TEXT];
-    bool own = chance_one_in(chance, 2);
+    unsigned which = chance_below(chance, 4);
+    unsigned line = which < 2 ? 200 : which == 2 ? near_line(maker) : bad_line(maker);
     line_data(maker, data);
-    if (own) say(maker, SELDOM, "CW200%s", data);
-    say(maker, SELDOM, "CW209%03u", own ? 200 : near_line(maker));
+    if (line == 200) say(maker, SELDOM, "CW200%s", data);
+    say(maker, SELDOM, "CW209%03u", line);
     say(maker, SELDOM, "CW210006");
 }
 

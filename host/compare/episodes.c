@@ -27,25 +27,31 @@ static size_t choose_calls(struct chance *chance, bool large)
     return chance_between(chance, 20, 300);
 }
 
+/* One line, or about one in ten. */
+static void damage_lines(struct maker *maker, enum area area)
+{
+    struct chance *chance = &maker->chance;
+    uint8_t line[LINE_BYTES];
+    for (unsigned n = chance_one_in(chance, 4) ? 1 : 20; n > 0; n--) {
+        line_damaged(line, chance);
+        alter_line(maker, area, chance_below(chance, 200), line);
+    }
+}
+
 /* Lines stand behind the 1,600 bytes that are lent too, to be found by a box that looks there. */
 static void fill_areas(struct maker *maker)
 {
     struct chance *chance = &maker->chance;
     if (!chance_one_in(chance, 3)) alter_whole(maker, PROGRAM, chance_one_in(chance, 3) ? NOISE : LINES);
-    switch (chance_below(chance, 4)) {
-    case 0: /* zeros, as they are */
+    switch (chance_below(chance, 8)) {
+    case 0: /* zeros, as they are: every line is Bad */
         break;
-    case 1:
+    case 1: /* and hardly a line that is not */
         alter_whole(maker, SAVED, NOISE);
         break;
     default:
         alter_whole(maker, SAVED, LINES);
-        if (chance_one_in(chance, 2))
-            for (unsigned n = 0; n < 20; n++) {
-                uint8_t line[LINE_BYTES];
-                line_damaged(line, chance);
-                alter_line(maker, SAVED, chance_below(chance, 200), line);
-            }
+        if (chance_one_in(chance, 2)) damage_lines(maker, SAVED);
         break;
     }
     if (chance_one_in(chance, 2)) alter_whole(maker, LOG, NOISE);
@@ -82,8 +88,10 @@ static void anything(struct maker *maker)
 {
     struct chance *chance = &maker->chance;
     uint32_t luck = chance_below(chance, 1000);
-    if (luck < 400)
+    if (luck < 350)
         say_any(maker);
+    else if (luck < 400)
+        say_bad(maker);
     else if (luck < 440)
         say_walk(maker);
     else if (luck < 550)

@@ -66,31 +66,93 @@ void line_any(uint8_t line[LINE_BYTES], struct chance *chance)
     }
 }
 
-/* Each way to miss one of the three forms by a single byte, the bounds 0 and 5 of the counter and
- * 10,000 of times and counts among them. */
+/* `counter_0` is the first of the two faults of a counter. */
+static enum fault counter_fault(unsigned counter, enum fault counter_0)
+{
+    if (counter == 0) return counter_0;
+    return counter > 4 ? counter_0 + 1 : FAULT_NONE;
+}
+
+enum fault line_fault(const uint8_t line[LINE_BYTES])
+{
+    static const uint8_t zeros[LINE_BYTES];
+    enum fault counter;
+    switch (line[0]) {
+    case 0x53:
+        if (line[1] != 0) return FAULT_STATE_SECOND_BYTE;
+        return line[6] * 256u + line[7] > 9999 ? FAULT_STATE_TIME : FAULT_NONE;
+    case 0x46:
+        counter = counter_fault(line[1], FAULT_FOR_COUNTER_0);
+        if (counter != FAULT_NONE) return counter;
+        if (line[2] * 256u + line[3] > 9999) return FAULT_FOR_COUNT;
+        return memcmp(line + 4, zeros, 4) != 0 ? FAULT_FOR_ZEROS : FAULT_NONE;
+    case 0x4E:
+        counter = counter_fault(line[1], FAULT_NEXT_COUNTER_0);
+        if (counter != FAULT_NONE) return counter;
+        return memcmp(line + 2, zeros, 6) != 0 ? FAULT_NEXT_ZEROS : FAULT_NONE;
+    default:
+        return memcmp(line, zeros, LINE_BYTES) == 0 ? FAULT_ALL_ZERO : FAULT_FIRST_BYTE;
+    }
+}
+
+bool line_is_bad(const uint8_t line[LINE_BYTES])
+{
+    return line_fault(line) != FAULT_NONE;
+}
+
+/* One of the three letters, one next to them, a small one, or any byte. */
+static uint8_t any_first(struct chance *chance)
+{
+    static const char usual[] = "SFNRTEGMOsfn";
+    return chance_one_in(chance, 3) ? (uint8_t)chance_next(chance) : (uint8_t)usual[chance_below(chance, sizeof usual - 1)];
+}
+
+static void put_above_9999(uint8_t *to, struct chance *chance)
+{
+    unsigned over = chance_one_in(chance, 2) ? 10000 : chance_between(chance, 10000, 65535);
+    to[0] = (uint8_t)(over >> 8);
+    to[1] = (uint8_t)over;
+}
+
+/* Each way to miss one of the three forms, the bounds 0 and 5 of the counter and 10,000 of times and counts among them. */
 void line_damaged(uint8_t line[LINE_BYTES], struct chance *chance)
 {
-    static const uint8_t counters[] = {0, 5, 255};
+    static const uint8_t counters[] = {0, 0, 5, 255};
     line_any(line, chance);
     bool state = line[0] == 0x53;
-    switch (chance_below(chance, 4)) {
+    switch (chance_below(chance, 10)) {
     case 0:
-        line[0] = (uint8_t)chance_next(chance);
+        line[0] = any_first(chance);
         break;
     case 1:
-        line[1] = state ? (uint8_t)chance_between(chance, 1, 255) : counters[chance_below(chance, 3)];
+    case 2:
+    case 3:
+        line[1] = state ? (uint8_t)chance_between(chance, 1, 255) : counters[chance_below(chance, 4)];
         break;
-    case 2: {
-        unsigned over = chance_one_in(chance, 2) ? 10000 : chance_between(chance, 10000, 65535);
-        unsigned at = state ? 6 : 2;
-        line[at] = (uint8_t)(over >> 8);
-        line[at + 1] = (uint8_t)over;
+    case 4: /* in a Next these bytes have to be 0 */
+    case 5:
+        put_above_9999(line + (state ? 6 : 2), chance);
         break;
-    }
+    case 6: /* one that has to be 0; a State has but one */
+        line[state ? 1 : chance_between(chance, 4, 7)] = (uint8_t)chance_between(chance, 1, 255);
+        break;
+    case 7: /* one byte, of which one bit or all are others */
+        line[chance_below(chance, LINE_BYTES)] ^= (uint8_t)(chance_one_in(chance, 2) ? 1u << chance_below(chance, 8) : chance_next(chance));
+        break;
+    case 8:
+        memset(line, 0, LINE_BYTES);
+        break;
     default:
-        line[chance_between(chance, 2, 7)] ^= (uint8_t)(1u << chance_below(chance, 8));
+        for (unsigned i = 0; i < LINE_BYTES; i++) line[i] = (uint8_t)chance_next(chance);
         break;
     }
+}
+
+void line_bad(uint8_t line[LINE_BYTES], struct chance *chance)
+{
+    do
+        line_damaged(line, chance);
+    while (!line_is_bad(line));
 }
 
 void line_text(char text[LINE_TEXT], const uint8_t line[LINE_BYTES])

@@ -9,7 +9,7 @@
 
 struct maker {
     struct chance chance;
-    const struct both *both; /* looked at for the records held, so that a destination can just suffice */
+    const struct both *both; /* looked at to aim: for the records held, so that a destination can just suffice, and for Bad lines */
     struct steps row;
     size_t next;   /* the step of the row that is taken next */
     uint32_t log;  /* the length given at the last accepted power-on */
@@ -38,7 +38,8 @@ void alter_somewhere(struct maker *maker);
 void say(struct maker *maker, unsigned damaged, const char *format, ...) __attribute__((format(printf, 3, 4)));
 void say_any(struct maker *maker);  /* any command */
 void say_read(struct maker *maker); /* a read of what changes as a program runs */
-void say_walk(struct maker *maker); /* reads of addresses one after the other, by I or D */
+void say_walk(struct maker *maker); /* reads, or writes of lines, of addresses one after the other, by I or D */
+void say_bad(struct maker *maker);  /* a read of a Bad line, by digits, I or D, or its execution */
 void say_special(struct maker *maker);
 void say_single(struct maker *maker); /* line 200 or another, and its execution */
 void say_noise(struct maker *maker);

@@ -20,15 +20,18 @@ struct said prepare_say(struct both *both, int which, uint32_t log, const char *
     return both_call(both, which, &step);
 }
 
+/* A Bad line is the Next that a loop of none of the dearest tick looks for, but for its last byte: a search has to look at all of it. */
 static void fill(uint8_t *program, unsigned from, unsigned to, char between)
 {
     for (unsigned i = from; i < to; i++) {
+        uint8_t *line = program + 8 * i;
         if (between == 'S')
-            line_state(program + 8 * i, i, 1);
+            line_state(line, i, 1);
         else if (between == 'F')
-            line_for(program + 8 * i, i % 4 + 1, i);
+            line_for(line, i % 4 + 1, i);
         else
-            line_next(program + 8 * i, 1);
+            line_next(line, between == 'B' ? 2 : 1);
+        if (between == 'B') line[7] = 1;
     }
 }
 

@@ -10,7 +10,7 @@ struct step prepare_step(enum kind kind, uint8_t value, uint32_t log);
 /* Says the command to one box. Answers what the call of the 13 said. */
 struct said prepare_say(struct both *both, int which, uint32_t log, const char *text);
 
-/* The program with the dearest tick, the one after a start at 000; `between` is S, F or N, the lines that each search passes. */
+/* The program with the dearest tick, the one after a start at 000; `between` is S, F, N or B for Bad, the lines that each search passes. */
 void prepare_dearest(uint8_t *program, char between);
 
 /* The same without a loop of none. */

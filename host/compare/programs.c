@@ -29,6 +29,21 @@ static void add_next(struct program *program, unsigned counter)
     line_next(more(program), counter);
 }
 
+static void add_bad(struct program *program, struct chance *chance)
+{
+    line_bad(more(program), chance);
+}
+
+/* Puts a Bad line before the first line, behind the last or between two. Where there is no room for one more the last goes. */
+static void insert_bad(struct program *program, struct chance *chance)
+{
+    if (program->count < 200) program->count++;
+    unsigned last = program->count - 1, at = chance_below(chance, program->count);
+    if (chance_one_in(chance, 4)) at = last;
+    memmove(program->line + at + 1, program->line + at, (size_t)(last - at) * LINE_BYTES);
+    line_bad(program->line[at], chance);
+}
+
 /* Loops one inside the other, of the counters from `counter` on. */
 static void add_nested(struct program *program, struct chance *chance, unsigned counter)
 {
@@ -54,37 +69,28 @@ static void add_soup(struct program *program, struct chance *chance)
     }
 }
 
-/* A loop of none of this counter, perhaps with lines of any kind in it: those of other loops among them. */
+/* A loop of none of this counter, perhaps with lines of any kind in it: those of other loops among them, and Bad ones. */
 static void add_none(struct program *program, struct chance *chance, unsigned counter, unsigned inside)
 {
     add_for(program, counter, 0);
-    while (inside-- > 0) line_any(more(program), chance);
+    while (inside-- > 0) {
+        if (chance_one_in(chance, 4))
+            add_bad(program, chance);
+        else
+            line_any(more(program), chance);
+    }
     add_next(program, counter);
 }
 
-/* Loops without a State line, of about 400 lines in one call. */
-static void add_long_loops(struct program *program, struct chance *chance)
+/* What is due after about 400 lines: `a` is free by then, `b` perhaps not. */
+static void add_behind_400(struct program *program, struct chance *chance, unsigned a, unsigned b)
 {
-    if (chance_one_in(chance, 2)) add_state(program, chance, chance_between(chance, 1, 2));
-    unsigned a = chance_between(chance, 1, 4), b = a % 4 + 1;
-    if (chance_one_in(chance, 8)) add_for(program, b, 1); /* what follows then finds its counter busy, or no Next of it stands below */
-    if (chance_one_in(chance, 2)) {
-        add_for(program, a, chance_between(chance, 396, 401));
-        add_next(program, a);
-    } else { /* the outer For, and each time round a For, `inner` Nexts and the outer Next */
-        unsigned outer = chance_between(chance, 2, 40);
-        unsigned inner = 400 / outer - 2 + chance_below(chance, 2);
-        add_for(program, a, outer);
-        add_for(program, b, inner);
-        add_next(program, b);
-        add_next(program, a);
-    }
-    switch (chance_below(chance, 7)) {
+    switch (chance_below(chance, 9)) {
     case 0:
         add_for(program, b, chance_one_in(chance, 2) ? 2 : 0); /* perhaps with no Next below */
         break;
     case 1:
-        add_next(program, a); /* free by now */
+        add_next(program, a);
         break;
     case 2: /* a loop of one line more, or a For that stands twice */
         add_for(program, b, 1);
@@ -96,10 +102,34 @@ static void add_long_loops(struct program *program, struct chance *chance)
     case 4:
         add_none(program, chance, b, chance_below(chance, 2));
         break;
+    case 5:
+    case 6:
+        add_bad(program, chance);
+        break;
     default:
         add_state(program, chance, chance_below(chance, 3));
         break;
     }
+}
+
+/* Loops without a State line, of about 400 lines in one call. */
+static void add_long_loops(struct program *program, struct chance *chance)
+{
+    if (chance_one_in(chance, 2)) add_state(program, chance, chance_between(chance, 1, 2));
+    unsigned a = chance_between(chance, 1, 4), b = a % 4 + 1;
+    if (chance_one_in(chance, 8)) add_for(program, b, 1); /* what follows then finds its counter busy, or no Next of it stands below */
+    if (chance_one_in(chance, 2)) {
+        add_for(program, a, chance_one_in(chance, 2) ? 399 : chance_between(chance, 396, 401)); /* 399 makes 400 lines */
+        add_next(program, a);
+    } else { /* the outer For, and each time round a For, `inner` Nexts and the outer Next */
+        unsigned outer = chance_between(chance, 2, 40);
+        unsigned inner = 400 / outer - 2 + chance_below(chance, 2);
+        add_for(program, a, outer);
+        add_for(program, b, inner);
+        add_next(program, b);
+        add_next(program, a);
+    }
+    add_behind_400(program, chance, a, b);
 }
 
 /* Loops of none in a loop, and nothing else: about 400 lines in one call. */
@@ -172,19 +202,21 @@ static void add_slow(struct program *program, struct chance *chance)
     add_state(program, chance, chance_below(chance, 2));
 }
 
+/* A Bad line cannot be written: the caller puts it there. Now and then it is tried, where it has a text. */
 static void write_program(struct maker *maker, const struct program *program, unsigned at)
 {
     char text[LINE_TEXT];
     bool onward = false;
     for (unsigned i = 0; i < program->count; i++) {
         line_text(text, program->line[i]);
-        if (text[0] == 0)
+        bool written = text[0] != 0 && (!line_is_bad(program->line[i]) || chance_one_in(&maker->chance, 4));
+        if (!written)
             alter_line(maker, PROGRAM, at + i, program->line[i]);
         else if (onward && chance_one_in(&maker->chance, 2))
             say(maker, UNDAMAGED, "CWI%s", text);
         else
             say(maker, UNDAMAGED, "CW%03u%s", at + i, text);
-        onward = text[0] != 0;
+        onward = written;
     }
 }
 
@@ -232,7 +264,7 @@ static void meddle(struct maker *maker)
         break;
     case 3:
     case 4:
-        if (chance_one_in(chance, 4)) say(maker, UNDAMAGED, "CW209%03u", chance_between(chance, 198, 202));
+        if (chance_one_in(chance, 4)) say(maker, UNDAMAGED, "CW209%03u", chance_between(chance, 198, 203));
         say(maker, UNDAMAGED, "CW210%s", specials[chance_below(chance, 9)]);
         break;
     case 5: /* locked while a program runs or is paused */
@@ -286,18 +318,21 @@ void run_recipe(struct maker *maker)
         program.count = 0;
         add_slow(&program, chance);
     }
+    if (chance_one_in(chance, 4)) insert_bad(&program, chance);
     unsigned most = 200 - program.count, at = 0;
     if (chance_one_in(chance, 4)) at = chance_below(chance, most + 1);
-    bool next_last = program.line[program.count - 1][0] == 0x4E;
-    if (chance_one_in(chance, next_last ? 2 : 5)) at = most; /* the program ends on line 199 */
+    const uint8_t *last = program.line[program.count - 1];
+    bool end_shows = last[0] == 0x4E || line_is_bad(last);
+    if (chance_one_in(chance, end_shows ? 2 : 5)) at = most; /* the program ends on line 199 */
     if (!chance_one_in(chance, 4)) say(maker, UNDAMAGED, "CW210001");
     maker->near = at < LAST ? at : LAST;
     deliver(maker, &program, at);
     if (chance_one_in(chance, 8)) at += chance_below(chance, program.count); /* a start inside */
     start(maker, at);
-    if (next_last || chance_one_in(chance, 3)) say(maker, UNDAMAGED, "CR211");
+    if (end_shows || chance_one_in(chance, 3)) say(maker, UNDAMAGED, "CR211");
     if (slow) make_ticks(maker, chance_one_in(chance, 4) ? 10100 : 1300);
     run_on(maker);
+    if (chance_one_in(chance, 2)) say(maker, UNDAMAGED, "CR212");
 }
 
 void run_fill(struct maker *maker)

@@ -58,6 +58,7 @@ static bool print_replies(const struct statistics *statistics)
         [NIZHALEPU_E_NEEDS_PAUSE] = "E021 needs a pause",
         [NIZHALEPU_E_NOTHING_TO_PAUSE] = "E022 nothing is running to pause",
         [NIZHALEPU_E_OUT_OF_REACH] = "E023 parameter out of reach",
+        [NIZHALEPU_E_BAD_LINE] = "E024 Bad line",
     };
     bool met = true;
     puts("\n  replies");
@@ -122,7 +123,7 @@ static bool print_running(const struct statistics *statistics)
     static const char *const events[EVENTS] = {
         [6] = "006 For of a busy counter", [7] = "007 For without Next",  [8] = "008 Next of a free counter",
         [9] = "009 past line 199",         [10] = "010 stopped by button", [11] = "011 end mark",
-        [12] = "012 power-on",             [13] = "013 more than 400 lines",
+        [12] = "012 power-on",             [13] = "013 more than 400 lines", [14] = "014 Bad line",
     };
     bool met = true;
     puts("\n  events");
@@ -139,6 +140,60 @@ static bool print_running(const struct statistics *statistics)
     class("most changes lost in one gap", statistics->most_lost);
     class("most bytes in one emptying", statistics->most_written);
     return met;
+}
+
+/* What makes lines Bad, and what was done with such lines. */
+static bool print_faults(const struct statistics *statistics)
+{
+    static const char *const names[FAULTS] = {
+        [FAULT_ALL_ZERO] = "eight zeros",
+        [FAULT_FIRST_BYTE] = "another first byte",
+        [FAULT_STATE_SECOND_BYTE] = "State, second byte not 0",
+        [FAULT_STATE_TIME] = "State, time above 9999",
+        [FAULT_FOR_COUNTER_0] = "For, counter 0",
+        [FAULT_FOR_COUNTER] = "For, counter above 4",
+        [FAULT_FOR_COUNT] = "For, count above 9999",
+        [FAULT_FOR_ZEROS] = "For, a last byte not 0",
+        [FAULT_NEXT_COUNTER_0] = "Next, counter 0",
+        [FAULT_NEXT_COUNTER] = "Next, counter above 4",
+        [FAULT_NEXT_ZEROS] = "Next, a last byte not 0",
+    };
+    bool met = true;
+    printf("\n  %-28s%10s%10s%10s%10s\n", "what makes them Bad", "read", "run", "executed", "passed");
+    for (int f = FAULT_NONE + 1; f < FAULTS; f++) {
+        printf("  %-28s", names[f]);
+        for (int u = 0; u < USES; u++) {
+            printf("%10" PRIu64, statistics->faults[f][u]);
+            met = met && statistics->faults[f][u] > 0;
+        }
+        putchar('\n');
+    }
+    return met;
+}
+
+static bool print_bad(const struct statistics *statistics)
+{
+    static const char *const names[BADS] = {
+        [BAD_READ_BY_DIGITS] = "E024, read by digits",
+        [BAD_READ_BY_I] = "E024, read by I",
+        [BAD_READ_BY_D] = "E024, read by D",
+        [BAD_READ_TOO_LONG] = "E002, read with characters left over",
+        [BAD_RUN_AT_START] = "014 at a start",
+        [BAD_RUN_AT_TICK] = "014 at a tick",
+        [BAD_RUN_AFTER_400] = "014 after 400 For and Next lines",
+        [BAD_RUN_IN_LOOP] = "014 in a loop",
+        [BAD_RUN_AT_199] = "014 on line 199",
+        [BAD_EXECUTED] = "executed by 006",
+        [BAD_POWERED] = "copied by a power-on",
+        [BAD_LOADED] = "copied by a load, 007",
+        [BAD_SAVED] = "copied by a save, 008",
+        [BAD_IN_LOOP_TAKEN] = "passed by the search of a For that took its counter",
+        [BAD_IN_NONE] = "passed with a loop of none",
+    };
+    bool met = true;
+    puts("\n  Bad lines");
+    for (int b = 0; b < BADS; b++) met &= class(names[b], statistics->bad[b]);
+    return print_faults(statistics) && met;
 }
 
 static bool print_logs(const struct statistics *statistics)
@@ -168,6 +223,7 @@ bool statistics_print(const struct statistics *statistics)
     met &= print_replies(statistics);
     met &= print_specials(statistics);
     met &= print_running(statistics);
+    met &= print_bad(statistics);
     met &= print_logs(statistics);
     return met;
 }

@@ -17,6 +17,11 @@ enum { ROUNDS = 41, LOG_LENGTH = 65536, COMMANDS = 100, TICKS = 50000 };
 
 /* ---- the programs that the measured calls run */
 
+static void program_of_ends(uint8_t *program)
+{
+    for (unsigned i = 0; i < 200; i++) line_state(program + 8 * i, 0, 0);
+}
+
 /* Each State line stands for 9999 ticks, so that hardly a tick sees one fall due. */
 static void program_waiting(uint8_t *program)
 {
@@ -47,6 +52,11 @@ static void program_over_fors(uint8_t *program)
 static void program_over_nexts(uint8_t *program)
 {
     prepare_dearest(program, 'N');
+}
+
+static void program_over_bad(uint8_t *program)
+{
+    prepare_dearest(program, 'B');
 }
 
 static void program_far(uint8_t *program)
@@ -124,17 +134,18 @@ struct measure {
     const char *name;
     enum kind kind;
     size_t count;                                  /* calls in a round */
-    void (*program)(uint8_t *program);             /* what the program area holds; NULL for end marks */
+    void (*program)(uint8_t *program);             /* what the program area holds */
     void (*prepare)(struct both *both, int which); /* before each round */
 };
 
 static const struct measure measures[] = {
-    {"wire byte, whole commands of every sort", BYTE, COMMANDS *(sizeof commands - 1), NULL, nothing},
-    {"tick, stopped", TICK, TICKS, NULL, nothing},
+    {"wire byte, whole commands of every sort", BYTE, COMMANDS *(sizeof commands - 1), program_of_ends, nothing},
+    {"tick, stopped", TICK, TICKS, program_of_ends, nothing},
     {"tick, running and waiting", TICK, TICKS, program_waiting, start_again},
     {"dearest tick, searching over State lines", TICK, 1, program_over_states, start_again},
     {"dearest tick, searching over For lines", TICK, 1, program_over_fors, start_again},
     {"dearest tick, searching over Next lines", TICK, 1, program_over_nexts, start_again},
+    {"dearest tick, searching over Bad lines", TICK, 1, program_over_bad, start_again},
     {"the same over State lines, no loop of none", TICK, 1, program_far, start_again},
     {"emptying a full log of 65,536 bytes", EMPTY, 1, program_changing, fill_log},
 };
@@ -173,7 +184,7 @@ static bool measure(const struct measure *measure)
     both_make(&both, LOG_LENGTH, 0);
     for (int i = 0; i < BOXES; i++) {
         both_call(&both, i, &on);
-        if (measure->program != NULL) measure->program(both.area[i][PROGRAM]);
+        measure->program(both.area[i][PROGRAM]);
     }
     for (int n = 0; n < ROUNDS; n++)
         for (int k = 0; k < BOXES; k++) {

@@ -144,6 +144,7 @@ static const struct instance instances[] = {
     {"byte: 13 alone, E001", {""}, false},
     {"byte: 13 of a read of 201", {"CR201"}, false},
     {"byte: 13 of a read of a State line", {"CW000S00123456780005", "CR000"}, false},
+    {"byte: 13 of a read of a Bad line, E024", {"CW210007", "CR000"}, false},
     {"byte: 13 of a write of a State line", {"CW199S00FFFFFFFF9999"}, false},
     {"byte: 13 of a write to 206, a change in the log", {"CW20655"}, false},
     {"byte: 13 of 003, a start", {"CW210003"}, false},
@@ -155,12 +156,14 @@ static const struct instance instances[] = {
     {"tick: that runs 400 lines", {"CW210003"}, true},
     {"tick: that passes a loop of none", {"CW001F10000", "CW210003"}, true},
     {"tick: that makes a change in the log", {"CW001S00000000070001", "CW210003"}, true},
+    {"tick: that comes to a Bad line", {"CW210007", "CW000S00000000010001", "CW210003"}, true},
 };
 
-/* Up to the call itself, which is left in `step`. */
+/* Up to the call itself, which is left in `step`. The saved copy is zeros: 007 makes every line Bad. */
 static void lead_to(const struct instance *instance, int which)
 {
     struct step on = prepare_step(POWER_ON, 0, LOG_LENGTH);
+    memset(both.area[which][SAVED], 0, NIZHALEPU_PROGRAM);
     both_call(&both, which, &on);
     prepare_far(both.area[which][PROGRAM], 'N');
     step = prepare_step(BYTE, 0, LOG_LENGTH);

@@ -3,8 +3,32 @@
 #define COMPARE_STATISTICS_H
 
 #include "both.h"
+#include "line.h"
 
-enum { REFUSALS = 7, ERRORS = 24, CODES = 9, EVENTS = 14, ADDRESSES = 217, STATES = 3, REACHES = 2 };
+enum { REFUSALS = 7, ERRORS = 25, CODES = 9, EVENTS = 15, ADDRESSES = 217, STATES = 3, REACHES = 2 };
+
+/* where Bad lines were met */
+enum bad {
+    BAD_READ_BY_DIGITS, /* E024 */
+    BAD_READ_BY_I,
+    BAD_READ_BY_D,
+    BAD_READ_TOO_LONG, /* E002: characters left over */
+    BAD_RUN_AT_START,  /* 014 */
+    BAD_RUN_AT_TICK,
+    BAD_RUN_AFTER_400,
+    BAD_RUN_IN_LOOP, /* a counter was busy before the call */
+    BAD_RUN_AT_199,
+    BAD_EXECUTED, /* by 006 */
+    BAD_POWERED,  /* copied by power-on, 007 and 008 */
+    BAD_LOADED,
+    BAD_SAVED,
+    BAD_IN_LOOP_TAKEN, /* passed by the search of a For that then took its counter */
+    BAD_IN_NONE,       /* passed with a loop of none */
+    BADS
+};
+
+/* what is done with a Bad line */
+enum use { USE_READ, USE_RUN, USE_EXECUTED, USE_PASSED, USES };
 
 /* what the readers of the log make of one */
 enum listed {
@@ -32,7 +56,7 @@ struct statistics {
     uint64_t data;
     /* special commands answered as is due: the code, when stopped, paused, running, with the parameter in and out of reach */
     uint64_t special[CODES][STATES][REACHES];
-    uint64_t astray; /* those answered otherwise, and errors that neither paper has */
+    uint64_t astray; /* what both boxes did and neither paper has: calls.c names it */
     uint64_t ticks[STATES]; /* accepted when stopped, paused, running */
     uint64_t events[EVENTS];
     uint64_t changes;
@@ -43,6 +67,8 @@ struct statistics {
     uint64_t nones_of_400;  /* those in calls that ran 400 lines */
     uint64_t most_nones;    /* in one call */
     uint64_t none_events[EVENTS]; /* seen where the line shown is a For with count 0000: 006, 007 and 013 stopped the program on it */
+    uint64_t bad[BADS];
+    uint64_t faults[FAULTS][USES]; /* of the Bad lines met, what makes them so */
     uint32_t most_lost;
     unsigned most_lines;
     size_t most_written; /* bytes of an emptying */

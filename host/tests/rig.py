@@ -1,57 +1,13 @@
 #!/usr/bin/env python3
 """rig.py IN OUT: writes the trial script of the rig and the answers it must get.
 
-The answers stand here beside what is asked, worked out by hand from document 01; none was taken from a running box. All that is
-done to them is spelling: a command becomes one `byte` line for each of its bytes, a reply its hex digits.
+The answers stand here and in rig_bad_lines.py beside what is asked, worked out by hand from documents 01 and 02; none was taken from a
+running box.
 """
 import sys
 
-END_MARK = "5300000000000000"
-asked, answers = [], []
-log_length = 24
-
-
-def line(text, answer):
-    asked.append(text)
-    answers.append(answer)
-
-
-def send(command, reply, lines=0):
-    """A command and its 13; every byte but the 13 is answered by nothing."""
-    for character in command:
-        line(f"byte {ord(character)} 1600 1600 {log_length} 16", "0 0 0 -")
-    text = (reply + "\r").encode().hex().upper()
-    line(f"byte 13 1600 1600 {log_length} 16", f"0 {lines} {len(reply) + 1} {text}")
-
-
-def tick(lines=0):
-    line(f"tick 1600 {log_length}", f"0 {lines}")
-
-
-def press(button, lines=0):
-    line(f"press {button} 1600 {log_length}", f"0 {lines}")
-
-
-def on(length=24, saved=END_MARK * 200):
-    """Power-on with a saved copy; 01's worked points start from 200 end marks."""
-    global log_length
-    log_length = length
-    line(f"set saved 0 {saved}", "ok")
-    line(f"on 1600 1600 {length}", "0")
-
-
-def change(cause, ticks, word):
-    return f"1EE101{cause:02X}{ticks:08X}{word:08X}"
-
-
-def gap(ticks, lost):
-    return f"1EE10200{ticks:08X}{lost:08X}"
-
-
-def empty(*records):
-    count = 12 * len(records)
-    line(f"empty {log_length} {count}", f"0 {count}")
-    line(f"get dest 0 {count}", "".join(records) or "-")
+from rig_bad_lines import reads_of_bad_lines, runs_of_bad_lines, saving
+from rig_script import END_MARK, answers, asked, change, empty, gap, line, on, press, send, tick
 
 
 def before_power_on():
@@ -212,7 +168,7 @@ def points_of_special_commands():
 def bench():
     """01's bench: an all-zero saved copy, a 24-byte log."""
     on(saved="00" * 1600)
-    line("get program 0 16", END_MARK * 2)  # loaded in the cleaned form
+    line("get program 0 16", "00" * 16)  # loaded as it is
     send("CW000S00000000050003", "OK")
     send("CW001S00000000000000", "OK")
     send("CW210003", "OK")
@@ -222,24 +178,6 @@ def bench():
     tick()
     send("CR206", "00")
     send("CR212", "011")
-
-
-def saving():
-    """Power-on and 007 clean what they load; 008 cleans what it saves and leaves the area."""
-    good, bad = "4E02000000000000", "4605000300000000"
-    on(saved=good + bad + END_MARK * 198)
-    line("get program 0 16", good + END_MARK)
-    line("get saved 0 16", good + bad)  # power-on only reads it
-    line(f"set program 1592 {bad}", "ok")
-    send("CR199", "S00000000000000")
-    send("CW210008", "OK")
-    line("get program 1592 8", bad)
-    line("get saved 0 16", good + END_MARK)
-    line("get saved 1592 9", END_MARK + "00")
-    send("CW000F10001", "OK")
-    send("CW210007", "OK")
-    send("CR000", "N2")
-    line("get program 1592 8", END_MARK)
 
 
 def refusals():
@@ -318,6 +256,8 @@ points_of_the_log()
 points_of_special_commands()
 bench()
 saving()
+reads_of_bad_lines()
+runs_of_bad_lines()
 refusals()
 areas()
 unread()

@@ -11,99 +11,8 @@ import tempfile
 import threading
 import time
 
-PROGRAM = sys.argv[1]
-END_MARK = bytes.fromhex("5300000000000000")
-
-
-class Box:
-    """A running serialbox in a folder of its own, and a program that has its line open."""
-
-    started = []
-
-    def __init__(self, folder, *options, commands=subprocess.PIPE, before=None):
-        self.folder = folder
-        self.saved, self.log, self.link = (os.path.join(folder, name) for name in ("saved", "log", "link"))
-        self.process = subprocess.Popen(
-            [PROGRAM, "--saved", self.saved, "--log", self.log, "--link", self.link, *options], preexec_fn=before,
-            stdin=commands, stdout=subprocess.PIPE, stderr=subprocess.PIPE)
-        Box.started.append(self.process)
-        self.name = self.process.stdout.readline().decode().strip()
-        self.line = os.open(self.name, os.O_RDWR | os.O_NOCTTY) if self.name else -1
-
-    def send(self, data):
-        while data:
-            data = data[os.write(self.line, data):]
-
-    def read(self, count, seconds=20):
-        """As many bytes, or what came of them in time."""
-        data, end = b"", time.monotonic() + seconds
-        while len(data) < count and select.select([self.line], [], [], max(0, end - time.monotonic()))[0]:
-            got = os.read(self.line, count - len(data))
-            if not got:  # the box is gone
-                break
-            data += got
-        return data
-
-    def ask(self, command, reply):
-        self.send(command.encode("latin-1") + b"\r")
-        equal(self.read(len(reply) + 1), reply.encode() + b"\r", command)
-        equal(self.read(1, 0), b"", "more than the reply to " + command)
-
-    def command(self, text):
-        self.process.stdin.write(text.encode() + b"\n")
-        self.process.stdin.flush()
-
-    def wait_for(self, command, reply, seconds):
-        """Asks until the reply is the one given; the time when it was."""
-        end = time.monotonic() + seconds
-        while time.monotonic() < end:
-            self.send(command.encode() + b"\r")
-            if self.read(len(reply) + 1) == reply.encode() + b"\r":
-                return time.monotonic()
-            time.sleep(0.01)
-        raise AssertionError(f"{command} never answered {reply}")
-
-    def empty(self):
-        """Empties the log, waits for the message that says so, and reads the file."""
-        self.command("empty")
-        while b"appended" not in self.process.stderr.readline():
-            pass
-        return records(self.log)
-
-    def end(self, status=0):
-        """Its messages after an end by `quit`, or after an end that the case brought about."""
-        if self.process.poll() is None and self.process.stdin and status == 0:
-            self.command("quit")
-        messages = self.process.communicate(timeout=20)[1].decode()
-        equal(self.process.returncode, status, "status; messages: " + messages)
-        if self.line >= 0:
-            os.close(self.line)
-        return messages
-
-
-def equal(got, want, what):
-    if got != want:
-        raise AssertionError(f"{what}: {got!r}, not {want!r}")
-
-
-def within(value, least, most, what):
-    if not least <= value <= most:
-        raise AssertionError(f"{what}: {value}, not {least} to {most}")
-
-
-def contents(path):
-    with open(path, "rb") as file:
-        return file.read()
-
-
-def records(path):
-    """The log file as (kind, cause, tick, value)."""
-    data = contents(path)
-    equal(len(data) % 12, 0, "length of the log file in records")
-    rows = [data[i:i + 12] for i in range(0, len(data), 12)]
-    for row in rows:
-        equal(row[:2], b"\x1e\xe1", "mark")
-    return [(row[2], row[3], int.from_bytes(row[4:8], "big"), int.from_bytes(row[8:], "big")) for row in rows]
+import serial_bad_lines
+from serial_box import END_MARK, PROGRAM, Box, contents, equal, records, within
 
 
 def exchange(folder):
@@ -135,6 +44,7 @@ def ticks_in_time(folder):
     """100 ticks take 10 s, while the line is busy and though the box is stopped for 2 s: none is lost and none is added."""
     box = Box(folder)
     box.ask("CW000S00000000010100", "OK")
+    box.ask("CW001S00000000000000", "OK")
     asked = time.monotonic()
     box.ask("CW210003", "OK")
     started = time.monotonic()
@@ -205,12 +115,12 @@ def saving(folder):
     box.ask("CW000F10003", "OK")
     equal(os.path.exists(box.saved), False, "a file before the first save")
     box.ask("CW210008", "OK")
-    equal(contents(box.saved), bytes.fromhex("4601000300000000") + END_MARK * 199, "saved copy")
+    equal(contents(box.saved), bytes.fromhex("4601000300000000") + bytes(1592), "saved copy")
     box.ask("CW000N1", "OK")
     box.end()
     box = Box(folder)
     box.ask("CR000", "F10003")
-    box.ask("CR001", "S00000000000000")
+    box.ask("CR001", "E024")  # never written
     box.end()
     equal(sorted(os.listdir(folder)), ["log", "saved"], "files left")
 
@@ -335,7 +245,7 @@ def killed_in_saves(folder):
         threading.Timer(random.uniform(0.01, 0.15), box.process.kill).start()
         answered, version = save_until_killed(box, kept, version)
         box.end(-signal.SIGKILL)
-        data = contents(box.saved) if os.path.exists(box.saved) else END_MARK * 200
+        data = contents(box.saved) if os.path.exists(box.saved) else bytes(1600)
         equal((len(data), data[:8]), (1600, data[-8:]), "length of the saved copy, and its two ends")
         kept = int.from_bytes(data[2:6], "big")
         within(kept, answered, version, "the version saved")
@@ -346,6 +256,7 @@ def slow_reader(folder):
     """Nobody reads for 3 s while commands pour in; then every reply is there, in order, and the ticks came in time."""
     box, count = Box(folder), 100000
     box.ask("CW000S00000000010020", "OK")
+    box.ask("CW001S00000000000000", "OK")
     box.ask("CW210003", "OK")
     commands = b"CR20\rCR204\rCR20\rCR206\r" * (count // 4)
     writer = threading.Thread(target=box.send, args=(commands,))
@@ -382,7 +293,7 @@ def flood(folder):
 
 
 CASES = [exchange, every_byte, ticks_in_time, tick_count, buttons, without_buttons, saving, emptying, emptied_in_time, log_refused,
-         log_removed, save_refused, wrong_files, wrong_options, killed_in_saves, slow_reader, flood]
+         log_removed, save_refused, wrong_files, wrong_options, killed_in_saves, slow_reader, flood, *serial_bad_lines.CASES]
 
 if __name__ == "__main__":
     if PROGRAM == "--list":

@@ -1,2 +1,3 @@
 pub mod Sounds
+pub mod Hearing
 pub mod Replies

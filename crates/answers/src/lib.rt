@@ -85,13 +85,23 @@ fn having_written(c: Controller, k: u8) -> Controller
     s
 }
 
-// What the command collected so far asks for.
-pub fn asked(c: Controller) -> Heard
-    requires { ⌜ WireInvariant (c .wire) ⌝ }
-    ensures heard { λ r. ⌜ r ≡ heardOf (asked c) ⌝ }
+// What the command collected so far asks for, by the seven checks; a read of a Bad line, behind them, is E024.
+pub fn asked(c: Controller, program: &[u8]) -> Heard
+    requires { ⌜ WireInvariant (c .wire) × (length (now program) ≡ 1600) ⌝ }
+    ensures heard { λ r. ⌜ r ≡ heardOf (asked c (now (program .entry))) ⌝ }
 {
     let w = c.wire;
-    wire::command(w, special::mode_of(c.run.on, c.paused), c.panel.parameter)
+    let heard = wire::command(w, special::mode_of(c.run.on, c.paused), c.panel.parameter);
+    let Heard::Is(q) = heard else {
+        return heard;
+    };
+    let Asked::Read(k) = q else {
+        return heard;
+    };
+    if variables::is_bad_at(c.panel, program, k) {
+        return Heard::Error(24);
+    }
+    heard
 }
 
 // A read of k answers its value.

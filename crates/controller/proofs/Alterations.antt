@@ -8,7 +8,7 @@ use lib.Dec.{eqb, ltb}
 use Rattle.formats.specs.Checks.{if_then_else_, Res, refused, passed}
 use Rattle.formats.proofs.Checks.{if-case}
 use Rattle.lines.specs.declared.Line.{Line}
-use Rattle.lines.specs.declared.Line.the-variants.{State, For, Next}
+use Rattle.lines.specs.declared.Line.the-variants.{State, For, Next, Bad}
 use Rattle.running.specs.declared.Run.{Run}
 use Rattle.log.specs.declared.Log.{Log}
 use Rattle.special.specs.declared.Special.{Special}
@@ -139,8 +139,8 @@ byCall logArea k c = false
 byCall out k c = isEnd k || isEmptying k
 
 -- The parts that an accepted call may alter, before its change is logged.
-abbrev pub alters : Part → Call → Controller → Bool
-alters p k c = byCall p k c || byCommand p (finished k c)
+abbrev pub alters : Part → Call → Controller → Areas → Bool
+alters p k c a = byCall p k c || byCommand p (finished k c a)
 
 -- ---- one deed after the other
 
@@ -200,6 +200,7 @@ pub execute-is : (l : Line) (c : Controller) → execute l c ≡ withRun (execut
 execute-is (State o t) c = refl
 execute-is (For n k) c = refl
 execute-is (Next n) c = refl
+execute-is Bad c = refl
 
 -- an accepted special command
 special-only : (s : Special) (k : ℕ) (c : Controller) (a : Areas)
@@ -253,17 +254,17 @@ collect-is x w =
     if-case P (eqb x 32) (λ _. refl) (λ _. if-case P (ltb (w .len) mostChars) (λ _. refl) (λ _. refl))
 
 -- the five calls
-does-only : (k : Call) (c : Controller) (a : Areas) → Only (λ p. alters p k c) (nothingRun c a) (does k c a)
+does-only : (k : Call) (c : Controller) (a : Areas) → Only (λ p. alters p k c a) (nothingRun c a) (does k c a)
 unfolding does powerUp load Deeds.byte ticked pressed stop startAt moved emptyLog writing finished
 does-only powerOn c a = record { same = refl }
 does-only (byte x) c a =
-    if-case (Only (λ p. alters p (byte x) c) (nothingRun c a)) (eqb x 13)
-    (λ e. record { same = rw e (ap (mixed (λ p. byCall p (byte 13) c) (answer (asked c) c a)) (answer-only (asked c) c a .same)) })
+    if-case (Only (λ p. alters p (byte x) c a) (nothingRun c a)) (eqb x 13)
+    (λ e. record { same = rw e (ap (mixed (λ p. byCall p (byte 13) c) (answer (asked c (a .program)) c a)) (answer-only (asked c (a .program)) c a .same)) })
     (λ e. rw (collect-is x (c .wire)) (record { same = rw e }))
 does-only tick c a =
-    if-case (Only (λ p. alters p tick c) (nothingRun c a)) (c .paused) (λ e. record { same = rw e }) (λ e. rw raise-is (record { same = rw e }))
+    if-case (Only (λ p. alters p tick c a) (nothingRun c a)) (c .paused) (λ e. record { same = rw e }) (λ e. rw raise-is (record { same = rw e }))
 does-only (press n) c a =
-    let P : Deed → Type 0 = Only (λ p. alters p (press n) c) (nothingRun c a) in
+    let P : Deed → Type 0 = Only (λ p. alters p (press n) c a) (nothingRun c a) in
     if-case P (eqb n 1)
     (λ e. if-case P (c .run .on) (λ f. rw raise-is (record { same = rw (e, f) })) (λ f. rw raise-is (record { same = rw (e, f) })))
     (λ e. if-case P (c .run .on) (λ f. record { same = rw (e, f) }) (λ f. record { same = rw (e, f) }))
@@ -272,8 +273,8 @@ does-only emptying c a = record { same = refl }
 -- ---- the laws
 
 -- An accepted call leaves each part that the table does not allow it to alter.
-pub does-alters : (k : Call) (c : Controller) (a : Areas) (p : Part) → alters p k c ≡ false → partOf p (does k c a) ≡ partOf p (nothingRun c a)
-does-alters k c a = others (λ p. alters p k c) (nothingRun c a) (does k c a) (does-only k c a)
+pub does-alters : (k : Call) (c : Controller) (a : Areas) (p : Part) → alters p k c a ≡ false → partOf p (does k c a) ≡ partOf p (nothingRun c a)
+does-alters k c a = others (λ p. alters p k c a) (nothingRun c a) (does k c a) (does-only k c a)
 
 -- An answer empties the collection, writes the reply, and leaves each part that the table does not allow its command to alter.
 pub answer-alters : (r : Res Asked) (c : Controller) (a : Areas) (p : Part) → byCommand p r ≡ false → partOf p (answer r c a) ≡ partOf p (replied r c a)

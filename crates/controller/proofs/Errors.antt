@@ -26,7 +26,7 @@ afterError e c a = record {
 }
 
 -- An error reply changes nothing but the emptied collection.
-pub error-changes-nothing : (c : Controller) (a : Areas) (e : ℕ) → call (byte 13) c a .refusal ≡ 0 → asked c ≡ refused e
+pub error-changes-nothing : (c : Controller) (a : Areas) (e : ℕ) → call (byte 13) c a .refusal ≡ 0 → asked c (a .program) ≡ refused e
     → call (byte 13) c a ≡ afterError e c a
 unfolding does Deeds.byte answer writing
 error-changes-nothing c a e ok err =

@@ -11,7 +11,7 @@ use borrow.Author.Tests.{leb-true}
 use Rattle.formats.specs.Checks.{Res, refused, passed, Ok}
 use Rattle.formats.proofs.Checks.{if-case}
 use Rattle.lines.specs.declared.Line.{Line}
-use Rattle.lines.specs.declared.Line.the-variants.{State, For, Next}
+use Rattle.lines.specs.declared.Line.the-variants.{State, For, Next, Bad}
 use Rattle.lines.specs.Line.{endMark}
 use Rattle.lines.proofs.Lines.{length-bytes}
 use Rattle.running.specs.declared.Run.{Run}
@@ -34,7 +34,6 @@ use Rattle.special.proofs.Quiet.{start-stopped, start-at-stopped, pause-runs}
 use Rattle.wire.specs.Invariant.{WireInvariant}
 use Rattle.wire.proofs.Collecting.{collect-kept, cleared-kept}
 use Rattle.wire.specs.Sound.{Permitted, SoundData, Sound}
-use Rattle.wire.proofs.Commands.{asked-sound}
 use Rattle.controller.specs.declared.Controller.{Controller}
 use Rattle.controller.specs.Controller.{withRun, withPaused, withTicks, withWire, withSpecial, withEvent, mode, Areas, fresh}
 use Rattle.controller.specs.Deeds.{Deed, raise, moved, startAt, stop, execute, special, read, write, readTo, wroteTo, writing}
@@ -44,6 +43,7 @@ use Rattle.controller.specs.Deeds as Deeds
 use Rattle.controller.specs.Refusals.{Call, powerOn, byte, tick as tickCall, press, emptying, check}
 use Rattle.controller.specs.Calls.{does, startsFrom, differs, changeOf, logged, settled, call}
 use Rattle.controller.specs.Invariant.{Invariant}
+use Rattle.controller.proofs.Legible.{sound-asked}
 
 -- the state of what was done keeps it; the log is looked at apart
 record Keeps (x : Deed) : Type 0 where
@@ -110,6 +110,7 @@ executed : (l : Line) (c : Controller) → Invariant c → Invariant (execute l 
 executed (State o t) c i = with-outputs o c i
 executed (For n k) c i = i
 executed (Next n) c i = i
+executed Bad c i = i
 
 special-keeps : (s : Special) (c : Controller) (a : Areas) → Permitted (mode c) (c .panel .parameter) s → Invariant c → Keeps (special s c a)
 unfolding special
@@ -169,7 +170,7 @@ byte-keeps : (x : ℕ) (c : Controller) (a : Areas) → Invariant c → Keeps (D
 unfolding Deeds.byte
 byte-keeps x c a i =
     if-case Keeps (eqb x 13)
-    (λ _. answer-keeps (asked c) c a (asked-sound (mode c) (c .panel .parameter) (c .wire) (i .wire)) i)
+    (λ _. answer-keeps (asked c (a .program)) c a (sound-asked c (a .program) (i .wire)) i)
     (λ _. record { kept = with-wire _ c (collect-kept x (c .wire) (i .wire)) i })
 
 -- ---- a tick and a press
@@ -227,11 +228,11 @@ does-keeps tickCall c a i = tick-keeps c a i
 does-keeps (press n) c a i = press-keeps n c a i
 does-keeps emptying c a i = empty-log-keeps c a i
 
-logged-kept : (k : Call) (c : Controller) (x : Deed) → LogInvariant (x .state .log) → LogInvariant (logged k c x .log)
+logged-kept : (k : Call) (c : Controller) (a : Areas) (x : Deed) → LogInvariant (x .state .log) → LogInvariant (logged k c a x .log)
 unfolding logged
-logged-kept k c x l =
+logged-kept k c a x l =
     if-case (λ (g : Logged). LogInvariant (g .log)) (differs (startsFrom k c .run .outputs) (x .state .run .outputs))
-    (λ _. change-kept (x .state .log) (x .areas .log) (changeOf k c (x .state)) l) (λ _. l)
+    (λ _. change-kept (x .state .log) (x .areas .log) (changeOf k c a (x .state)) l) (λ _. l)
 
 starts-from-invariant : (k : Call) (c : Controller) → Invariant c → Invariant (startsFrom k c)
 starts-from-invariant powerOn c i = fresh-invariant 0
@@ -244,7 +245,7 @@ settled-invariant : (r : Res (Unit {0})) (k : Call) (c : Controller) (a : Areas)
 settled-invariant (refused n) k c a i = starts-from-invariant k c i
 settled-invariant (passed ok) k c a i =
     let d = does-keeps k c a i .kept in
-    record { run = d .run; wire = d .wire; log = logged-kept k c (does k c a) (d .log); pausedRuns = d .pausedRuns; single = d .single }
+    record { run = d .run; wire = d .wire; log = logged-kept k c a (does k c a) (d .log); pausedRuns = d .pausedRuns; single = d .single }
 
 -- Every call, accepted or refused, keeps the invariant.
 pub call-invariant : (k : Call) (c : Controller) (a : Areas) → Invariant c → Invariant (call k c a .state)

@@ -1,3 +1,4 @@
+pub mod Legible
 pub mod Alterations
 pub mod Invariant
 pub mod Refusals

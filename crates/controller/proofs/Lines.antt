@@ -26,7 +26,6 @@ use Rattle.wire.specs.declared.Data.the-variants.{WriteLine, WriteOutputs, Writ
 use Rattle.wire.specs.declared.Asked.{Asked}
 use Rattle.wire.specs.declared.Asked.the-variants.{Read, Write}
 use Rattle.wire.specs.Sound.{Sound}
-use Rattle.wire.proofs.Commands.{asked-sound}
 use Rattle.controller.specs.declared.Controller.{Controller}
 use Rattle.controller.specs.Controller.{withSingle, mode, Areas}
 use Rattle.controller.specs.Variables.{lineOf, value}
@@ -37,6 +36,7 @@ use Rattle.controller.specs.Calls.{does}
 use Rattle.controller.specs.Effects.{finished, specialCode, writesLine, replaces}
 use Rattle.controller.specs.Invariant.{Invariant}
 use Rattle.controller.proofs.Refusals.{Checked, program-long}
+use Rattle.controller.proofs.Legible.{sound-asked}
 use Rattle.controller.proofs.Alterations.{single, program, partOf, byCommand, alters, does-alters, answer-alters}
 
 -- ---- what a reply is
@@ -107,7 +107,7 @@ answer-same : (r : Res Asked) (k : ℕ) (c : Controller) (a : Areas) → byComma
 answer-same r k c a e f = same-line c a (answer r c a) k (answer-alters r c a single e) (answer-alters r c a program f)
 
 -- a call that alters neither
-call-same : (n : Call) (k : ℕ) (c : Controller) (a : Areas) → alters single n c ≡ false → alters program n c ≡ false
+call-same : (n : Call) (k : ℕ) (c : Controller) (a : Areas) → alters single n c a ≡ false → alters program n c a ≡ false
     → lineIn (does n c a) k ≡ lineOf c (a .program) k
 call-same n k c a e f = same-line c a (does n c a) k (does-alters n c a single e) (does-alters n c a program f)
 
@@ -155,15 +155,15 @@ answer-keeps (passed (Write j (WriteParameter v))) k c a i len le n = answer-sam
 answer-keeps (passed (Write j (WriteSpecial s))) k c a i len le n = special-keeps s j k c a le n
 
 -- so does a byte that ends such a command or none
-byte-keeps : (x k : ℕ) (c : Controller) (a : Areas) → Invariant c → length (a .program) ≡ 1600 → k ≤ 200 → Keeps k (finished (byte x) c)
+byte-keeps : (x k : ℕ) (c : Controller) (a : Areas) → Invariant c → length (a .program) ≡ 1600 → k ≤ 200 → Keeps k (finished (byte x) c a)
     → lineIn (Deeds.byte x c a) k ≡ lineOf c (a .program) k
 unfolding Deeds.byte finished
 byte-keeps x k c a i len le n =
     if-case (λ (y : Deed). lineIn y k ≡ lineOf c (a .program) k) (eqb x 13)
-    (λ e. answer-keeps (asked c) k c a (asked-sound (mode c) (c .panel .parameter) (c .wire) (i .wire)) len le (rw e at n)) (λ _. refl)
+    (λ e. answer-keeps (asked c (a .program)) k c a (sound-asked c (a .program) (i .wire)) len le (rw e at n)) (λ _. refl)
 
 -- Every accepted call that does not replace line k leaves it.
-pub line-kept : (n : Call) (k : ℕ) (c : Controller) (a : Areas) → Invariant c → Checked n c a → k ≤ 200 → replaces k n c ≡ false
+pub line-kept : (n : Call) (k : ℕ) (c : Controller) (a : Areas) → Invariant c → Checked n c a → k ≤ 200 → replaces k n c a ≡ false
     → lineIn (does n c a) k ≡ lineOf c (a .program) k
 unfolding does replaces finished
 line-kept powerOn k c a i ch le u = absurd (true≢false u)

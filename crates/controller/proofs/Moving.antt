@@ -28,6 +28,7 @@ use Rattle.controller.specs.Deeds as Deeds
 use Rattle.controller.specs.Refusals.{Call, powerOn, byte, tick as tickCall, press, emptying}
 use Rattle.controller.specs.Calls.{does}
 use Rattle.controller.specs.Effects.{finished, dataCode, specialCode, startBy, startLine}
+use Rattle.controller.proofs.Legible.{asked-ok}
 use Rattle.controller.proofs.Alterations.{run, program, byCommand, alters, does-alters}
 
 -- ---- what leaves the run and the program as they were
@@ -37,7 +38,7 @@ pub record Same (c : Controller) (a : Areas) (x : Deed) : Type 0 where
   pub program : x .areas .program ≡ a .program
 
 -- a call that may alter neither leaves both
-pub call-same : (k : Call) (c : Controller) (a : Areas) → alters run k c ≡ false → alters program k c ≡ false → Same c a (does k c a)
+pub call-same : (k : Call) (c : Controller) (a : Areas) → alters run k c a ≡ false → alters program k c a ≡ false → Same c a (does k c a)
 call-same k c a e f = record { run = does-alters k c a run e; program = does-alters k c a program f }
 
 -- stop apart, a command that may be given while a program runs may alter neither
@@ -57,12 +58,13 @@ quiet-leaves (passed (Write k (WriteSpecial Load))) q ne = absurd (true≢false 
 quiet-leaves (passed (Write k (WriteSpecial Save))) q ne = absurd (true≢false (sym q))
 
 -- a byte while a program runs, if it does not end the command stop
-pub byte-same : (x : ℕ) (c : Controller) (a : Areas) → c .run .on ≡ true → specialCode (finished (byte x) c) ≢ 1 → Same c a (does (byte x) c a)
+pub byte-same : (x : ℕ) (c : Controller) (a : Areas) → c .run .on ≡ true → specialCode (finished (byte x) c a) ≢ 1 → Same c a (does (byte x) c a)
 unfolding finished
 byte-same x c a on ne =
     let quiets = if-case (Ok (λ (q : Asked). quiet q ≡ true)) (eqb x 13)
-    (λ _. command-quiet (mode c) (c .panel .parameter) (runs-mode (c .run .on) (c .paused) on) (c .wire)) (λ _. tt) in
-    let e = quiet-leaves (finished (byte x) c) quiets ne in
+    (λ _. asked-ok c (a .program) (λ (q : Asked). quiet q ≡ true)
+    (command-quiet (mode c) (c .panel .parameter) (runs-mode (c .run .on) (c .paused) on) (c .wire))) (λ _. tt) in
+    let e = quiet-leaves (finished (byte x) c a) quiets ne in
     call-same (byte x) c a (e .0) (e .1)
 
 -- ---- what moves the run
@@ -126,12 +128,12 @@ answer-as (passed (Write j x)) k c a e =
     writing-as _ _ (record { run = h .run; program = h .program; event = h .event; silent = h .silent; lines = h .lines })
 
 -- a byte that ends 003 or 005
-byte-as : (x k : ℕ) (c : Controller) (a : Areas) → startBy (specialCode (finished (byte x) c)) (c .panel .parameter) ≡ some k
+byte-as : (x k : ℕ) (c : Controller) (a : Areas) → startBy (specialCode (finished (byte x) c a)) (c .panel .parameter) ≡ some k
     → MovedAs (start (a .program) k (c .run .outputs)) c (a .program) (Deeds.byte x c a)
 unfolding Deeds.byte finished
 byte-as x k c a e =
     if-case (MovedAs (start (a .program) k (c .run .outputs)) c (a .program)) (eqb x 13)
-    (λ f. answer-as (asked c) k c a (rw f at e)) (λ f. absurd (not-some (rw f at e)))
+    (λ f. answer-as (asked c (a .program)) k c a (rw f at e)) (λ f. absurd (not-some (rw f at e)))
 
 -- a press of Start/Stop when stopped
 press-as : (n k : ℕ) (c : Controller) (a : Areas) → (if eqb n 1 && not (c .run .on) then some 0 else none) ≡ some k
@@ -144,7 +146,7 @@ press-as n k c a e =
     (λ f. absurd (not-some (rw f at e)))
 
 -- An accepted start, by command 003 or 005 or by the button, moves the run as the rules' start does.
-pub does-start : (k : Call) (j : ℕ) (c : Controller) (a : Areas) → startLine k c ≡ some j
+pub does-start : (k : Call) (j : ℕ) (c : Controller) (a : Areas) → startLine k c a ≡ some j
     → MovedAs (start (a .program) j (c .run .outputs)) c (a .program) (does k c a)
 unfolding does startLine finished
 does-start powerOn j c a e = absurd (not-some e)

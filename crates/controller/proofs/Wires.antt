@@ -34,7 +34,7 @@ answer-empties r c a =
     record { none = ap (λ (b : List ℕ × ℕ × Bool). b .1) e; short = ap (λ (b : List ℕ × ℕ × Bool). b .2) e }
 
 -- a call that alters neither the collection nor the last addresses leaves the wire
-pub same-wire : (k : Call) (c : Controller) (a : Areas) → alters collected k c ≡ false → alters nextRead k c ≡ false → alters nextWrite k c ≡ false
+pub same-wire : (k : Call) (c : Controller) (a : Areas) → alters collected k c a ≡ false → alters nextRead k c a ≡ false → alters nextWrite k c a ≡ false
     → does k c a .state .wire ≡ c .wire
 same-wire k c a e f g =
     ap₂ (λ (b : List ℕ × ℕ × Bool) (n : ℕ × ℕ). record { chars = b .0; len = b .1; overlong = b .2; nextread = n .0; nextwrite = n .1 })

@@ -46,8 +46,9 @@ cause command line = if writesOutputs command then 255 else if eqb (specialCode 
 abbrev pub changed : ℕ → Controller → Change
 changed cause after = record { cause = cause; tick = after .ticks; word = after .run .outputs }
 
-abbrev pub changeOf : Call → Controller → Controller → Change
-changeOf k before after = changed (cause (finished k before) (after .run .line)) after
+-- of a call made with the state `before` and the areas `lent`
+abbrev pub changeOf : Call → Controller → Areas → Controller → Change
+changeOf k before lent after = changed (cause (finished k before lent) (after .run .line)) after
 
 -- the log and its area, where the word before the call was `before`
 abbrev pub loggedBy : ℕ → Change → Log → List ℕ → Logged
@@ -55,8 +56,8 @@ loggedBy before change log area =
     if differs before (change .word) then addChange log area change else record { log = log; area = area }
 
 -- the log and its area after an accepted call that did x
-unfoldable pub logged : Call → Controller → Deed → Logged
-logged k c x = loggedBy (startsFrom k c .run .outputs) (changeOf k c (x .state)) (x .state .log) (x .areas .log)
+unfoldable pub logged : Call → Controller → Areas → Deed → Logged
+logged k c a x = loggedBy (startsFrom k c .run .outputs) (changeOf k c a (x .state)) (x .state .log) (x .areas .log)
 
 -- ---- answered
 
@@ -87,7 +88,7 @@ refusedWith n k c a = record { state = startsFrom k c; refusal = n; lines = 0; w
 
 -- a call that passed its checks
 abbrev pub taken : Call → Controller → Areas → After
-taken k c a = accepted (does k c a) (logged k c (does k c a))
+taken k c a = accepted (does k c a) (logged k c a (does k c a))
 
 abbrev pub settled : Res (Unit {0}) → Call → Controller → Areas → After
 settled (refused n) k c a = refusedWith n k c a

@@ -1,15 +1,15 @@
 -- What an accepted call does, before its change is logged.
 use Prim.Native.Nat.{ℕ, _+_}
-use mathlib.Core.Bool.{true, false, not}
+use mathlib.Core.Bool.{Bool, true, false, not}
 use mathlib.Core.List.{List, [], _∷_, _++_}
 use lib.ListN.{length, drop}
 use lib.Dec.{eqb}
-use Rattle.formats.specs.Checks.{if_then_else_, Res, refused, passed, text}
+use Rattle.formats.specs.Checks.{if_then_else_, Res, refused, passed, _>>=_, _>>_, _orElse_, text}
 use Rattle.formats.specs.Digits.{errorText}
 use Rattle.lines.specs.declared.Line.{Line}
-use Rattle.lines.specs.declared.Line.the-variants.{State, For, Next}
+use Rattle.lines.specs.declared.Line.the-variants.{State, For, Next, Bad}
 use Rattle.lines.specs.Line.{bytesOf}
-use Rattle.lines.specs.Program.{putLine, cleaned}
+use Rattle.lines.specs.Program.{putLine}
 use Rattle.running.specs.declared.Ran.{Ran}
 use Rattle.running.specs.Running.{withOutputs, stopped, start, tick}
 use Rattle.variables.specs.Variables.{withOutputByte}
@@ -27,7 +27,7 @@ use Rattle.wire.specs.Command.{command}
 use Rattle.controller.specs.declared.Controller.{Controller}
 use Rattle.controller.specs.Controller.{withRun, withPaused, withTicks, withWire, withLog, withSingle, withParameter}
 use Rattle.controller.specs.Controller.{withSpecial, withEvent, mode, Areas, withProgram, withSaved, withOut, fresh}
-use Rattle.controller.specs.Variables.{lineOf, value}
+use Rattle.controller.specs.Variables.{lineOf, isBadAt, value}
 
 -- What was done: the state and the areas after it, the For and Next lines run, and the bytes written to the start of the reply or
 -- the destination.
@@ -66,21 +66,22 @@ startAt k c a = moved (start (a .program) k (c .run .outputs)) c a
 unfoldable pub stop : Controller → Controller
 stop c = withPaused false (withRun (stopped (c .run)) c)
 
--- 01, 'Variables': "Power-on and command 007 load the saved copy in that cleaned form; 008 saves the program area likewise cleaned,
--- leaving the area as it was."
+-- Power-on and command 007 load the saved copy, 008 saves the program area. 02, item 4: "Load and save copy the bytes unaltered."
 unfoldable pub load : Areas → Areas
-load a = withProgram (cleaned (a .saved)) a
+load a = withProgram (a .saved) a
 
 unfoldable pub save : Areas → Areas
-save a = withSaved (cleaned (a .program)) a
+save a = withSaved (a .program) a
 
 -- ---- the special commands
 
--- "006 sets the outputs of a State line and ignores its time; For and Next do nothing."
+-- "006 sets the outputs of a State line and ignores its time; For and Next do nothing." 02, item 4, of a Bad line: "Executing one by 006
+-- does nothing and answers OK."
 abbrev pub execute : Line → Controller → Controller
 execute (State outputs time) c = withRun (withOutputs outputs (c .run)) c
 execute (For counter count) c = c
 execute (Next counter) c = c
+execute Bad c = c
 
 unfoldable pub special : Special → Controller → Areas → Deed
 special Stop c a = nothingRun (stop c) a
@@ -127,12 +128,20 @@ answer (refused e) c a = writing (ended (errorText e)) (nothingRun (emptyCollect
 answer (passed (Read k)) c a = writing (ended (value c (a .program) k)) (nothingRun (read k (readTo k (emptyCollection c))) a)
 answer (passed (Write k x)) c a = writing (ended (text "OK")) (write k x (wroteTo k (emptyCollection c)) a)
 
+-- 02, item 4: "reading a Bad line over the wire answers E024, after the length check, and does not move the address." The length is the last
+-- that the seven checks ask of a read, so this is asked behind them all. `bad` says at which addresses a Bad line stands.
+unfoldable pub legible : (ℕ → Bool) → Asked → Res Asked
+legible bad (Read k) = do
+  not (bad k) orElse 24
+  passed (Read k)
+legible bad (Write k x) = passed (Write k x)
+
 -- what the command collected so far asks for, or its error
-abbrev pub asked : Controller → Res Asked
-asked c = command (c .wire) (mode c) (c .panel .parameter)
+abbrev pub asked : Controller → List ℕ → Res Asked
+asked c program = command (c .wire) (mode c) (c .panel .parameter) >>= legible (isBadAt c program)
 
 unfoldable pub byte : ℕ → Controller → Areas → Deed
-byte x c a = if eqb x 13 then answer (asked c) c a else nothingRun (withWire (collect x (c .wire)) c) a
+byte x c a = if eqb x 13 then answer (asked c (a .program)) c a else nothingRun (withWire (collect x (c .wire)) c) a
 
 -- ---- a tick, a press, emptying, power-on
 

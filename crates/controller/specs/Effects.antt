@@ -11,16 +11,17 @@ use Rattle.wire.specs.declared.Asked.{Asked}
 use Rattle.wire.specs.declared.Asked.the-variants.{Read, Write}
 use Rattle.special.specs.Special.{codeOf}
 use Rattle.controller.specs.declared.Controller.{Controller}
+use Rattle.controller.specs.Controller.{Areas}
 use Rattle.controller.specs.Deeds.{asked}
 use Rattle.controller.specs.Refusals.{Call, powerOn, byte, tick, press, emptying}
 
 -- the command that a call finishes, if it is byte 13; any other call finishes none
-unfoldable pub finished : Call → Controller → Res Asked
-finished powerOn c = refused 0
-finished (byte x) c = if eqb x 13 then asked c else refused 0
-finished tick c = refused 0
-finished (press n) c = refused 0
-finished emptying c = refused 0
+unfoldable pub finished : Call → Controller → Areas → Res Asked
+finished powerOn c a = refused 0
+finished (byte x) c a = if eqb x 13 then asked c (a .program) else refused 0
+finished tick c a = refused 0
+finished (press n) c a = refused 0
+finished emptying c a = refused 0
 
 -- the code of the special command that is given; 0 for none
 abbrev pub dataCode : Data → ℕ
@@ -87,14 +88,14 @@ abbrev pub startBy : ℕ → ℕ → Option ℕ
 startBy code parameter = if eqb code 3 then some 0 else if eqb code 5 then some parameter else none
 
 -- The line at which a call starts a program; Start/Stop "starts at 000 when stopped".
-unfoldable pub startLine : Call → Controller → Option ℕ
-startLine k c =
+unfoldable pub startLine : Call → Controller → Areas → Option ℕ
+startLine k c a =
     if isPress 1 k && not (c .run .on) then some 0
-    else startBy (specialCode (finished k c)) (c .panel .parameter)
+    else startBy (specialCode (finished k c a)) (c .panel .parameter)
 
 -- 00: "until a later write, a load or a power-on replaces it": a write to k; command 007, which replaces 000-199; or power-on
-unfoldable pub replaces : ℕ → Call → Controller → Bool
-replaces k n c =
+unfoldable pub replaces : ℕ → Call → Controller → Areas → Bool
+replaces k n c a =
     if isPowerOn n then true
-    else if writesLine k (finished n c) then true
-    else leb k 199 && eqb (specialCode (finished n c)) 7
+    else if writesLine k (finished n c a) then true
+    else leb k 199 && eqb (specialCode (finished n c a)) 7

@@ -207,16 +207,16 @@ silent e (aParameter v) z = absurd (not-refused z)
 silent e (aSpecial x) z = absurd (not-refused z)
 
 module _ (t : Told) (c : Controller) (a : Areas) (g : Agrees t c) (i : Invariant c) (s : Said) where
-  byte-done : (x : ℕ) → Hears (finished (byte x) c) s → Agrees (afterwards (byte x) s a t) (Deeds.byte x c a .state)
+  byte-done : (x : ℕ) → Hears (finished (byte x) c a) s → Agrees (afterwards (byte x) s a t) (Deeds.byte x c a .state)
   unfolding Deeds.byte finished
   byte-done x h = go (eqb x 13) refl
     where
       go : (b : Bool) → eqb x 13 ≡ b → Agrees (afterwards (byte x) s a t) (Deeds.byte x c a .state)
-      go true e = let is : x ≡ 13 = eqb-true x 13 e in rw is (command-agrees t c a g (asked c) s (rw is at h))
+      go true e = let is : x ≡ 13 = eqb-true x 13 e in rw is (command-agrees t c a g (asked c (a .program)) s (rw is at h))
       go false e = rw (silent 0 h (rw e)) (byte-agrees t c a g x (i .wire) e)
 
   -- An accepted call does as the history says.
-  pub does-agrees : (k : Call) → Checked k c a → isPowerOn k ≡ false → Hears (finished k c) s → Agrees (afterwards k s a t) (does k c a .state)
+  pub does-agrees : (k : Call) → Checked k c a → isPowerOn k ≡ false → Hears (finished k c a) s → Agrees (afterwards k s a t) (does k c a .state)
   unfolding does finished
   does-agrees powerOn ch other h = absurd (true≢false other)
   does-agrees (byte x) ch other h = byte-done x h

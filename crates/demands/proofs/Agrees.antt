@@ -7,7 +7,7 @@ use mathlib.Core.List.{List}
 use lib.Dec.{eqb}
 use Rattle.formats.specs.Checks.{if_then_else_, Res, refused, passed}
 use Rattle.lines.specs.declared.Line.{Line}
-use Rattle.lines.specs.declared.Line.the-variants.{State, For, Next}
+use Rattle.lines.specs.declared.Line.the-variants.{State, For, Next, Bad}
 use Rattle.log.specs.declared.Log.{Log}
 use Rattle.lines.specs.Line.{readLine, bytesOf}
 use Rattle.lines.specs.Program.{lineAt}
@@ -188,6 +188,7 @@ module _ (t : Told) (c : Controller) (g : Agrees t c) where
   execute-agrees l (State o time) k s a e = rw e (run-agrees t c g _ _ _ _ (ap (withOutputs o) (g .run)) (g .paused))
   execute-agrees l (For n count) k s a e = rw e g
   execute-agrees l (Next n) k s a e = rw e g
+  execute-agrees l Bad k s a e = rw e g
 
   -- the line that the parameter names
   pub named-line : (k : Call) (s : Said) (a : Areas) → lineOf c (a .program) (c .panel .parameter) ≡ lineNamed k s a t

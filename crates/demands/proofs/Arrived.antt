@@ -1,33 +1,48 @@
 -- Laws of a command that has arrived: the box finds it as it was received.
 -- Assumes nothing.
-use mathlib.Core.Path.{_≡_, sym, ap, _∙_}
+use mathlib.Core.Path.{_≡_, sym, ap, ap₂, _∙_}
 use Prim.Native.Nat.{ℕ, _≤_}
 use native.Mathlib.Omega.{arith}
-use mathlib.Core.Bool.{false}
+use mathlib.Core.Bool.{Bool, false}
 use mathlib.Core.List.{List, _++_}
 use lib.ListN.{length, length-append, length-map}
 use borrow.Author.Tests.{le-ltb}
-use Rattle.formats.specs.Checks.{text}
+use Rattle.formats.specs.Checks.{_>>=_, text}
 use Rattle.formats.proofs.Characters.{length-shown}
 use Rattle.lines.specs.declared.Line.{Line}
-use Rattle.lines.specs.declared.Line.the-variants.{State, For, Next}
+use Rattle.lines.specs.declared.Line.the-variants.{State, For, Next, Bad}
 use Rattle.texts.specs.Text.{lineText}
+use Rattle.variables.specs.declared.Panel.{Panel}
+use Rattle.variables.specs.Variables.{isBadAt}
 use Rattle.wire.specs.Collecting.{mostChars, capital, sent}
 use Rattle.wire.specs.Command.{command, commandIn}
 use Rattle.wire.specs.Naming.{Names, byDigits, byI, byD}
 use Rattle.controller.specs.declared.Controller.{Controller}
-use Rattle.controller.specs.Deeds.{asked}
+use Rattle.controller.specs.Controller.{mode}
+use Rattle.controller.specs.Deeds.{legible, asked}
 use Rattle.demands.specs.Told.{Told}
 use Rattle.demands.specs.ReadBack.{Arrives}
-use Rattle.demands.specs.Replies.{commandOf}
+use Rattle.demands.specs.Replies.{checksOf, commandOf, panelOf}
 use Rattle.demands.proofs.Collects.{sent-whole}
 use Rattle.demands.proofs.Agrees.{Agrees}
 
--- what byte 13 finds is what the history says
-pub asked-as-told : (t : Told) (c : Controller) → Agrees t c → asked c ≡ commandOf t
-unfolding command commandIn commandOf sent
-asked-as-told t c g =
+-- the panel is what the history says
+pub panel-as-told : (t : Told) (c : Controller) → Agrees t c → c .panel ≡ panelOf t
+panel-as-told t c g =
+    ap₂ (λ (b : List ℕ × Bool) (n : ℕ × ℕ × ℕ). record { single = b .0; parameter = n .0; special = n .1; event = n .2; unread = b .1 })
+    (ap₂ (λ s u. (s, u)) (g .panel .single) (g .panel .unread))
+    (ap₂ (λ p (n : ℕ × ℕ). (p, n .0, n .1)) (g .panel .parameter) (ap₂ (λ x e. (x, e)) (g .panel .special) (g .panel .event)))
+
+-- what the seven checks make of the characters is what they make of those that the history says
+pub checks-as-told : (t : Told) (c : Controller) → Agrees t c → command (c .wire) (mode c) (c .panel .parameter) ≡ checksOf t
+unfolding command commandIn checksOf sent
+checks-as-told t c g =
     rw (g .wire .received .first, g .wire .received .more, g .wire .nextRead, g .wire .nextWrite, g .panel .parameter, g .run, g .paused)
+
+-- so is what byte 13 finds
+pub asked-as-told : (t : Told) (c : Controller) → Agrees t c → (program : List ℕ) → asked c program ≡ commandOf t program
+asked-as-told t c g program =
+    ap₂ (λ r (v : Panel). r >>= legible (isBadAt v program)) (checks-as-told t c g) (panel-as-told t c g)
 
 module _ (t : Told) (c : Controller) (g : Agrees t c) (command : List ℕ) (arrived : Arrives t command) where
   -- one of at most 32 characters is not overlong
@@ -52,6 +67,7 @@ unfolding lineText text
 line-length (State o time) = simp (length-append, length-shown) (omega arith)
 line-length (For n count) = simp (length-append, length-shown) (omega arith)
 line-length (Next n) = simp length-shown (omega arith)
+line-length Bad = omega arith
 
 pub read-length : {next k : ℕ} {a : List ℕ} → Names next k a → length (text "CR" ++ a) ≤ mostChars
 unfolding text

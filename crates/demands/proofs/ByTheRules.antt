@@ -13,7 +13,7 @@ use Rattle.formats.proofs.Checks.{not-some, neither, both-false}
 use Rattle.running.specs.declared.Run.{Run}
 use Rattle.running.specs.declared.Ran.{Ran}
 use Rattle.running.specs.Running.{start, tick, ticks}
-use Rattle.variables.specs.Variables.{value}
+use Rattle.running.proofs.Ending.{Ended, start-ends, tick-ends-so}
 use Rattle.wire.specs.Naming.{Names}
 use Rattle.controller.specs.declared.Controller.{Controller}
 use Rattle.controller.specs.Controller.{Areas}
@@ -26,7 +26,7 @@ use Rattle.demands.specs.Histories.{ending, ticking, Made, Held, unpower
 use Rattle.demands.specs.Seen.{isTaken, reply, seen, outputs, Note, note, notes}
 use Rattle.demands.specs.Said.{Said, silence, reads, writesLine, writesOutputs, writesParameter, gives, given, readsEvent}
 use Rattle.demands.specs.Told.{Told, said, pausedThen, starts, ran, afterwards, tell, tellAll, told}
-use Rattle.demands.specs.Replies.{panelOf}
+use Rattle.demands.specs.Replies.{panelOf, readAs}
 use Rattle.demands.specs.ReadBack.{Arrives}
 use Rattle.demands.specs.Undisturbed.{Unbroken, unpaused, isBroken, isPausing}
 use Rattle.demands.proofs.Answered.{invariant-always}
@@ -41,40 +41,40 @@ use Rattle.demands.proofs.Undisturbed.{given-as-told, undisturbed}
 
 -- ---- the start
 
-not-power-on : (k : Call) (j : ℕ) (c : Controller) → startLine k c ≡ some j → isPowerOn k ≡ false
+not-power-on : (k : Call) (j : ℕ) (c : Controller) (a : Areas) → startLine k c a ≡ some j → isPowerOn k ≡ false
 unfolding startLine finished
-not-power-on powerOn j c e = absurd (not-some e)
-not-power-on (byte x) j c e = refl
-not-power-on tickCall j c e = refl
-not-power-on (press n) j c e = refl
-not-power-on emptying j c e = refl
+not-power-on powerOn j c a e = absurd (not-some e)
+not-power-on (byte x) j c a e = refl
+not-power-on tickCall j c a e = refl
+not-power-on (press n) j c a e = refl
+not-power-on emptying j c a e = refl
 
-start-lent : (k : Call) (j : ℕ) (c : Controller) → startLine k c ≡ some j → isLentProgram k ≡ true
+start-lent : (k : Call) (j : ℕ) (c : Controller) (a : Areas) → startLine k c a ≡ some j → isLentProgram k ≡ true
 unfolding startLine finished
-start-lent powerOn j c e = refl
-start-lent (byte x) j c e = refl
-start-lent tickCall j c e = refl
-start-lent (press n) j c e = refl
-start-lent emptying j c e = absurd (not-some e)
+start-lent powerOn j c a e = refl
+start-lent (byte x) j c a e = refl
+start-lent tickCall j c a e = refl
+start-lent (press n) j c a e = refl
+start-lent emptying j c a e = absurd (not-some e)
 
 -- the history's start is the box's
 starts-as-told : (t : Told) (h : Held) (m : Made) → Agrees t (h .state) → Invariant (h .state) → isAccepted h m ≡ true
-    → startLine (m .call) (h .state) ≡ starts (m .call) (said t (note h m)) (m .areas) t
+    → startLine (m .call) (h .state) (m .areas) ≡ starts (m .call) (said t (note h m)) (m .areas) t
 unfolding startLine
 starts-as-told t h m g i ok =
     ap₂ (λ (on : Bool) (x : ℕ × ℕ). if isPress 1 (m .call) && not on then some 0 else startBy (x .0) (x .1)) (ap (λ (r : Run). r .on) (g .run))
     (ap₂ (λ code parameter. (code, parameter)) (given-as-told (hears h m t g i ok)) (g .panel .parameter))
 
 -- an accepted start moves the run as the rules' start does, and leaves the program
-start-moves : (h : Held) (m : Made) (k : ℕ) → isAccepted h m ≡ true → HandsOn h m → startLine (m .call) (h .state) ≡ some k
+start-moves : (h : Held) (m : Made) (k : ℕ) → isAccepted h m ≡ true → HandsOn h m → startLine (m .call) (h .state) (m .areas) ≡ some k
     → (next h m .state .run ≡ start (h .program) k (h .state .run .outputs) .run) × (next h m .program ≡ h .program)
 start-moves h m k ok hands e = go (stepped h m)
   where
     other : isPowerOn (m .call) ≡ false
-    other = not-power-on (m .call) k (h .state) e
+    other = not-power-on (m .call) k (h .state) (m .areas) e
 
     same : m .areas .program ≡ h .program
-    same = hands .program other (start-lent (m .call) k (h .state) e) ok
+    same = hands .program other (start-lent (m .call) k (h .state) (m .areas) e) ok
 
     go : Step h m → (next h m .state .run ≡ start (h .program) k (h .state .run .outputs) .run) × (next h m .program ≡ h .program)
     go (fails bad n _ f) = absurd (true≢false (sym ok ∙ bad))
@@ -135,12 +135,12 @@ start-only k s a t j e quiet = go (isPress 1 k) refl (t .run .on) refl
 
 module _ (before : List Made) (m : Made) (k : ℕ) (taken : isTaken (seen before m) ≡ true)
     (begins : starts (m .call) (said (told before) (note (after unpowered before) m)) (m .areas) (told before) ≡ some k) where
-  start-at : startLine (m .call) (after unpowered before .state) ≡ some k
+  start-at : startLine (m .call) (after unpowered before .state) (m .areas) ≡ some k
   unfolding seen
   start-at = starts-as-told (told before) (after unpowered before) m (held-as-told before) (invariant-always before) taken ∙ begins
 
   start-other : isPowerOn (m .call) ≡ false
-  start-other = not-power-on (m .call) k (after unpowered before .state) start-at
+  start-other = not-power-on (m .call) k (after unpowered before .state) (m .areas) start-at
 
   -- the rules' start is what the history says of it
   ran-start : HandsOn (after unpowered before) m
@@ -149,7 +149,7 @@ module _ (before : List Made) (m : Made) (k : ℕ) (taken : isTaken (seen before
   unfolding seen
   ran-start hands =
       rw (begins, ran)
-      (ap₂ (λ p o. start p k o) (hands .program start-other (start-lent (m .call) k (after unpowered before .state) start-at) taken)
+      (ap₂ (λ p o. start p k o) (hands .program start-other (start-lent (m .call) k (after unpowered before .state) (m .areas) start-at) taken)
       (sym (outputs-as-told before)))
 
   start-event : let r = ran (m .call) (said (told before) (note (after unpowered before) m)) (m .areas) (told before) in
@@ -230,10 +230,10 @@ module _ (before : List Made) (m : Made) (k : ℕ) (ms : List Made) (taken : isT
   -- And so is what a read of any address answers: of 201, 203-206, 211 and 213-216 what the rules' run has there.
   pub reads-by-the-rules : ruled count .on ≡ true → (a : Areas) (j : ℕ) → j ≤ 216 → (address : List ℕ) → Arrives (told now) (text "CR" ++ address)
       → Names (told now .nextRead) j address → isTaken (seen now (ending a)) ≡ true
-      → reply (seen now (ending a)) ≡ ended (value (panelOf (told now)) (ruled count) (told now .paused) (a .program) j)
+      → reply (seen now (ending a)) ≡ ended (readAs (panelOf (told now)) (ruled count) (told now .paused) (a .program) j)
   reads-by-the-rules on a j inside address arrived named ok =
       reads-as-told now a j inside address arrived named ok .0
-      ∙ ap (λ r. ended (value (panelOf (told now)) r (told now .paused) (a .program) j)) (runs-by-the-rules on .0)
+      ∙ ap (λ r. ended (readAs (panelOf (told now)) r (told now .paused) (a .program) j)) (runs-by-the-rules on .0)
 
   -- The next tick that is taken unpaused does what the rules' next tick does: the program goes on, or it ends, with its event, exactly as they
   -- say (`running/Ending.tick-told`: a tick of the rules has an event exactly if it ends the program). It returns the number of lines they say.
@@ -249,6 +249,18 @@ module _ (before : List Made) (m : Made) (k : ℕ) (ms : List Made) (taken : isT
         tick-event now a ok unpaused ∙ ap (λ (x : Ran). if eqb (x .event) 0 then told now .event else x .event) r,
         tick-lines now a ok unpaused ∙ ap (λ (x : Ran). x .lines) r,
       )
+
+  -- 02, item 4: a Bad line does not look like an end. Where that tick ends the program with 011, an end mark stands at the line that 211 then
+  -- shows, and the outputs are its; where with 014, a Bad line stands there.
+  pub ends-where-it-says : ruled count .on ≡ true → (a : Areas) → isTaken (seen now (ticking a)) ≡ true → HandsOn (after unpowered now) (ticking a)
+      → told now .paused ≡ false → Ended program (tick program (ruled count) .event) (told (now ++ (ticking a ∷ [])) .run)
+  ends-where-it-says on a ok hand unpaused =
+      subst (Ended program (tick program (ruled count) .event)) (sym (ends-by-the-rules on a ok hand unpaused .0)) (tick-ends-so program (ruled count))
+
+  -- and the same of a start that ends the program at once
+  pub start-ends-where-it-says : Ended program (start program k (outputs before) .event) (told begun .run)
+  start-ends-where-it-says =
+      subst (Ended program (start program k (outputs before) .event)) (sym (starts-by-the-rules .0)) (start-ends program k (outputs before))
 
 paused-stays : (k : Call) (s : Said) (a : Areas) (t : Told) → eqb (given s) 1 ≡ false → isPress 1 k ≡ false
     → (eqb (given s) 2 || eqb (given s) 4 || isPress 2 k) ≡ false → pausedThen k s a t ≡ t .paused

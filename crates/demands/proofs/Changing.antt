@@ -44,7 +44,7 @@ cause-as-told line (aSpecial x) = refl
 module _ (t : Told) (h : Held) (m : Made) (g : Agrees t (h .state)) (i : Invariant (h .state)) (other : isPowerOn (m .call) ≡ false) where
   -- the change of an accepted call is the one that the box logs
   pub change-as-told : isAccepted h m ≡ true → Checked (m .call) (h .state) (m .areas) → outcome h m ≡ left h m → let x = deed h m .state in
-      change t (note h m) ≡ changing (h .state .run .outputs) (x .run .outputs) (cause (finished (m .call) (h .state)) (x .run .line)) (x .ticks)
+      change t (note h m) ≡ changing (h .state .run .outputs) (x .run .outputs) (cause (finished (m .call) (h .state) (m .areas)) (x .run .line)) (x .ticks)
   unfolding change note
   change-as-told ok ch e =
       let x = deed h m .state in

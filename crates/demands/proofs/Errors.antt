@@ -5,10 +5,11 @@ use mathlib.Core.Logic.{_⊎_, inl, inr, ⊎-elim}
 use Prim.Native.Nat.{ℕ, _≤_, _<_}
 use native.Mathlib.Omega.{arith}
 use mathlib.Core.Bool.{true, true≢false}
-use mathlib.Core.List.{List}
+use mathlib.Core.List.{List, [], _∷_, _++_}
 use Rattle.formats.specs.Checks.{Res, refused, passed}
 use Rattle.formats.specs.Digits.{errorText}
-use Rattle.formats.proofs.Checks.{err-at}
+use Rattle.formats.proofs.Checks.{Err, err-at, err-known}
+use Rattle.variables.specs.Variables.{isBadAt}
 use Rattle.special.specs.Special.{modeOf}
 use Rattle.wire.specs.declared.Asked.{Asked}
 use Rattle.wire.specs.Command.{rest}
@@ -18,17 +19,22 @@ use Rattle.controller.specs.declared.Controller.{Controller}
 use Rattle.controller.specs.Controller.{Areas}
 use Rattle.controller.specs.Deeds.{ended, asked}
 use Rattle.controller.proofs.Lines.{replyOf}
+use Rattle.controller.proofs.Legible.{legible-err}
+use Rattle.controller.specs.Refusals.{byte}
+use Rattle.demands.specs.Said.{silence}
 use Rattle.demands.specs.Histories.{ending, Made, unpowered, after}
-use Rattle.demands.specs.Seen.{isTaken, reply, seen, isError}
-use Rattle.demands.specs.Told.{Told, told}
-use Rattle.demands.specs.Replies.{wireOf, commandOf}
+use Rattle.demands.specs.Seen.{isTaken, reply, seen, isError, note, notes}
+use Rattle.demands.specs.Told.{Told, said, tellAll, afterwards, told}
+use Rattle.demands.specs.Replies.{wireOf, checksOf, commandOf, panelOf}
 use Rattle.demands.specs.Specials.{dueThen}
-use Rattle.demands.specs.Errors.{kept, Grounded}
+use Rattle.demands.specs.Errors.{kept, Grounded, byCheck, badLine}
 use Rattle.demands.proofs.Formats.{error-is-error, error-same}
 use Rattle.demands.proofs.Answered.{invariant-always}
-use Rattle.demands.proofs.Agrees.{Agrees}
+use Rattle.demands.proofs.Agrees.{Agrees, toldWire}
 use Rattle.demands.proofs.Heard.{reply-is, reply-no-error}
+use Rattle.demands.proofs.Telling.{tell-taken, told-more}
 use Rattle.demands.proofs.AsTold.{held-as-told}
+use Rattle.demands.proofs.BadLines.{bad-in-program}
 use Rattle.demands.proofs.Arrived.{asked-as-told}
 use Rattle.demands.proofs.Due.{done, special-alike}
 
@@ -51,15 +57,21 @@ module _ (t : Told) where
   ground-small : (e : ℕ) → OfTold e → e < 1000
   ground-small e g = ⊎-elim (λ low. omega arith) (λ high. omega (arith, high .0)) (low-or-due e g)
 
-  grounded : (e : ℕ) → OfTold e → Grounded t e
-  grounded e g = record { ground = g; special = λ lo. ⊎-elim (λ low. absurd (omega arith)) (λ high. high .1) (low-or-due e g) }
+  grounded : (program : List ℕ) (e : ℕ) → OfTold e → Grounded t program e
+  grounded program e g = byCheck g (λ lo. ⊎-elim (λ low. absurd (omega arith)) (λ high. high .1) (low-or-due e g))
+
+  told-small : (program : List ℕ) (e : ℕ) → Grounded t program e → e < 1000
+  told-small program e (byCheck g _) = ground-small e g
+  told-small program e (badLine is _ _ _ _) = omega arith
 
 module _ (ms : List Made) (a : Areas) (accepted : isTaken (seen ms (ending a)) ≡ true) where
-  -- Every error that is seen is E and the three digits of a number that has its ground in the characters and in what the history says: so
-  -- E005 is a locked variable, E004 an address, E020 to E023 come from address 210 alone, and there are no others.
-  pub errors-tell : isError (reply (seen ms (ending a))) ≡ true → (e : ℕ) × ((reply (seen ms (ending a)) ≡ ended (errorText e)) × Grounded (told ms) e)
-  unfolding seen commandOf
-  errors-tell is = go (asked c) refl
+  -- Every error that is seen is E and the three digits of a number that has its ground in the characters, in what the history says and in the
+  -- program lent: so E005 is a locked variable, E004 an address, E020 to E023 come from address 210 alone, E024 from a line of the program that is
+  -- Bad, and there are no others.
+  pub errors-tell : isError (reply (seen ms (ending a))) ≡ true
+      → (e : ℕ) × ((reply (seen ms (ending a)) ≡ ended (errorText e)) × Grounded (told ms) (a .program) e)
+  unfolding seen checksOf
+  errors-tell is = go (asked c (a .program)) refl
     where
       c : Controller
       c = after unpowered ms .state
@@ -67,16 +79,37 @@ module _ (ms : List Made) (a : Areas) (accepted : isTaken (seen ms (ending a)) �
       g : Agrees (told ms) c
       g = held-as-told ms
 
-      go : (r : Res Asked) → asked c ≡ r → (e : ℕ) × ((reply (seen ms (ending a)) ≡ ended (errorText e)) × Grounded (told ms) e)
+      -- of the seven checks, and behind them of a Bad line
+      ground : Err (Grounded (told ms) (a .program)) (commandOf (told ms) (a .program))
+      ground =
+          legible-err (isBadAt (panelOf (told ms)) (a .program)) (Grounded (told ms) (a .program)) (checksOf (told ms))
+          (err-known (Grounded (told ms) (a .program)) (checksOf (told ms)) λ e f.
+          grounded (told ms) (a .program) e (err-at (OfTold (told ms)) (error-grounded _ _ _ (told ms .parameter)) f))
+          λ k f bad. let at = bad-in-program (told ms) (held-as-told ms .panel .fits) (a .program) k bad in badLine refl k (at .0) f (at .1)
+
+      go : (r : Res Asked) → asked c (a .program) ≡ r
+          → (e : ℕ) × ((reply (seen ms (ending a)) ≡ ended (errorText e)) × Grounded (told ms) (a .program) e)
       go (refused e) f =
-          let ground : OfTold (told ms) e = err-at (OfTold (told ms)) (error-grounded _ _ _ (told ms .parameter)) (sym (asked-as-told (told ms) c g) ∙ f) in
-          (e, (reply-is (after unpowered ms) a accepted ∙ ap (λ r. replyOf r c a) f, grounded (told ms) e ground))
+          let told-ground = err-at (Grounded (told ms) (a .program)) ground (sym (asked-as-told (told ms) c g (a .program)) ∙ f) in
+          (e, (reply-is (after unpowered ms) a accepted ∙ ap (λ r. replyOf r c a) f, told-ground))
       go (passed q) f =
           absurd (true≢false (sym is ∙ reply-no-error (after unpowered ms) a (told ms) g (invariant-always ms) accepted q f))
 
   -- So of every number that can be read off a reply.
-  pub error-told : (e : ℕ) → e < 1000 → reply (seen ms (ending a)) ≡ ended (errorText e) → Grounded (told ms) e
+  pub error-told : (e : ℕ) → e < 1000 → reply (seen ms (ending a)) ≡ ended (errorText e) → Grounded (told ms) (a .program) e
   error-told e small is =
       let x = errors-tell (ap isError is ∙ error-is-error e) in
-      let same : x .0 ≡ e = error-same (x .0) e (ground-small (told ms) (x .0) (x .1 .1 .ground)) small (sym (x .1 .0) ∙ is) in
-      subst (Grounded (told ms)) same (x .1 .1)
+      let same : x .0 ≡ e = error-same (x .0) e (told-small (told ms) (a .program) (x .0) (x .1 .1)) small (sym (x .1 .0) ∙ is) in
+      subst (Grounded (told ms) (a .program)) same (x .1 .1)
+
+  error-silent : isError (reply (seen ms (ending a))) ≡ true → said (told ms) (note (after unpowered ms) (ending a)) ≡ silence
+  unfolding seen said note
+  error-silent is = rw is
+
+  -- "An error reply changes nothing but the emptied collection": after it the history says what it said before, with nothing received, and of
+  -- the areas the reply alone is written. E024 is such an error: the address that I and D go by stays.
+  pub error-leaves : isError (reply (seen ms (ending a))) ≡ true → told (ms ++ (ending a ∷ [])) ≡ toldWire (told ms .nextRead) (told ms .nextWrite) [] (told ms)
+  unfolding seen tellAll notes afterwards toldWire
+  error-leaves is =
+      told-more ms (ending a ∷ []) ∙ tell-taken (told ms) (after unpowered ms) (ending a) refl accepted
+      ∙ ap (λ s. afterwards (byte 13) s a (told ms)) (error-silent is)

@@ -14,13 +14,14 @@ use Rattle.formats.specs.Digits.{isDigit, digits, shown, numberIn, h, d, errorT
 use Rattle.formats.proofs.Checks.{if-case, both-true, and-false, passed-same}
 use Rattle.formats.proofs.Characters.{length-shown, shown-digits, shown-back}
 use Rattle.lines.specs.declared.Line.{Line}
-use Rattle.lines.specs.declared.Line.the-variants.{State, For, Next}
+use Rattle.lines.specs.declared.Line.the-variants.{State, For, Next, Bad}
+use Rattle.lines.specs.Line.{isBad}
 use Rattle.lines.specs.Program.{lineAt}
 use Rattle.lines.proofs.Lines.{Ranged, read-ranged}
 use Rattle.texts.specs.Text.{lineText}
 use Rattle.running.specs.declared.Run.{Run}
 use Rattle.variables.specs.declared.Panel.{Panel}
-use Rattle.variables.specs.Variables.{lineOf, value}
+use Rattle.variables.specs.Variables.{lineOf, isBadAt, value}
 use Rattle.controller.specs.Deeds.{ended}
 use Rattle.demands.specs.Seen.{isError}
 use Rattle.demands.specs.Formats.{isDigits, InFormat, aLine, inH, inD, in2D}
@@ -34,11 +35,13 @@ line-ranged : (panel : Panel) (program : List ℕ) (k : ℕ) → Ranged (lineOf 
 unfolding lineOf lineAt
 line-ranged panel program k = if-case Ranged (eqb k 200) (λ _. read-ranged (panel .single)) (λ _. read-ranged _)
 
--- What a read answers is in the format of its address.
-pub value-in-format : (panel : Panel) (run : Run) (paused : Bool) (program : List ℕ) (k : ℕ) → k ≤ 216 → InFormat k (value panel run paused program k)
-unfolding value
-value-in-format panel run paused program k le =
-    if-case (InFormat k) (leb k 200) (λ e. aLine (leb-true k 200 e) (lineOf panel program k) (line-ranged panel program k .range) refl) λ n.
+-- What a read shows is in the format of its address, where no Bad line stands there.
+pub value-in-format : (panel : Panel) (run : Run) (paused : Bool) (program : List ℕ) (k : ℕ) → k ≤ 216 → isBadAt panel program k ≡ false
+    → InFormat k (value panel run paused program k)
+unfolding value isBadAt
+value-in-format panel run paused program k le good =
+    if-case (InFormat k) (leb k 200)
+    (λ e. aLine (leb-true k 200 e) (lineOf panel program k) (rw e at good) (line-ranged panel program k .range) refl) λ n.
     let above : 200 < k = leb-false k 200 n in
     if-case (InFormat k) (eqb k 201) (λ e. hex 201 _ (eqb-true k 201 e) (omega arith) (omega arith)) λ _.
     if-case (InFormat k) (eqb k 202) (λ e. hex 202 _ (eqb-true k 202 e) (omega arith) (omega arith)) λ _.
@@ -93,15 +96,16 @@ first-digit : (cs : List ℕ) → length cs ≡ 4 → all (isDigit 10) cs ≡ tr
 first-digit [] l e = absurd (omega arith)
 first-digit (c ∷ cs) l e = digit-not-e c (both-true (isDigit 10 c) (all (isDigit 10) cs) e .0)
 
-line-no-error : (l : Line) → isError (ended (lineText l)) ≡ false
+line-no-error : (l : Line) → isBad l ≡ false → isError (ended (lineText l)) ≡ false
 unfolding lineText text
-line-no-error (State outputs time) = and-false (eqb (length (ended (lineText (State outputs time)))) 5)
-line-no-error (For counter count) = and-false (eqb (length (ended (lineText (For counter count)))) 5)
-line-no-error (Next counter) = and-false (eqb (length (ended (lineText (Next counter)))) 5)
+line-no-error (State outputs time) good = and-false (eqb (length (ended (lineText (State outputs time)))) 5)
+line-no-error (For counter count) good = and-false (eqb (length (ended (lineText (For counter count)))) 5)
+line-no-error (Next counter) good = and-false (eqb (length (ended (lineText (Next counter)))) 5)
+line-no-error Bad good = absurd (true≢false good)
 
 -- A reply in the format of an address is no error's.
 pub format-no-error : (k : ℕ) (cs : List ℕ) → InFormat k cs → isError (ended cs) ≡ false
-format-no-error k cs (aLine le l r e) = rw e (line-no-error l)
+format-no-error k cs (aLine le l good r e) = rw e (line-no-error l good)
 format-no-error k cs (inH lo hi e) = rw (ended-length cs 2 (eqb-true _ _ (both-true (eqb (length cs) 2) _ e .0)) (λ z. omega arith))
 format-no-error k cs (inD lo hi e) = rw (ended-length cs 3 (eqb-true _ _ (both-true (eqb (length cs) 3) _ e .0)) (λ z. omega arith))
 format-no-error k cs (in2D lo hi e) =

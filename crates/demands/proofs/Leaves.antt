@@ -76,12 +76,12 @@ module _ (c : Controller) (a : Areas) where
       → x .areas .saved ≡ a .saved → Leaves k s x
   same-leaves k s x other e f g = record { program = f ∙ sym (rw (other, e)); saved = g ∙ sym (rw e) }
 
-  byte-leaves : (x : ℕ) (s : Said) → Hears (finished (byte x) c) s → Leaves (byte x) s (Deeds.byte x c a)
+  byte-leaves : (x : ℕ) (s : Said) → Hears (finished (byte x) c a) s → Leaves (byte x) s (Deeds.byte x c a)
   unfolding Deeds.byte finished
   byte-leaves x s h = go (eqb x 13) refl
     where
       go : (b : Bool) → eqb x 13 ≡ b → Leaves (byte x) s (Deeds.byte x c a)
-      go true e = let is : x ≡ 13 = eqb-true x 13 e in rw is (command-leaves (asked c) s (rw is at h))
+      go true e = let is : x ≡ 13 = eqb-true x 13 e in rw is (command-leaves (asked c (a .program)) s (rw is at h))
       go false e = same-leaves (byte x) s (Deeds.byte x c a) refl (silent 0 h (rw e)) (rw (e, Deeds.byte)) (rw (e, Deeds.byte))
 
   tick-same : ticked c a .areas ≡ a
@@ -94,7 +94,7 @@ module _ (c : Controller) (a : Areas) where
       let P : Deed → Type 0 = λ x. x .areas ≡ a in
       if-case P (eqb n 1) (λ _. if-case P (c .run .on) (λ _. refl) (λ _. refl)) (λ _. if-case P (c .run .on) (λ _. refl) (λ _. refl))
 
-  does-leaves : (k : Call) (s : Said) → Hears (finished k c) s → Leaves k s (does k c a)
+  does-leaves : (k : Call) (s : Said) → Hears (finished k c a) s → Leaves k s (does k c a)
   unfolding does finished powerUp load emptyLog writing
   does-leaves powerOn s h = record { program = refl; saved = rw (silent 0 h refl) }
   does-leaves (byte x) s h = byte-leaves x s h
@@ -134,12 +134,12 @@ module _ (c : Controller) (a : Areas) where
   unwritten : (x : Deed) → x .areas ≡ a → x .written ≡ 0 → Wrote [] x
   unwritten x e f = record { out = ap (λ (y : Areas). y .out) e; written = f }
 
-  byte-wrote : (x : ℕ) → Wrote (if eqb x 13 then replyOf (asked c) c a else []) (Deeds.byte x c a)
+  byte-wrote : (x : ℕ) → Wrote (if eqb x 13 then replyOf (asked c (a .program)) c a else []) (Deeds.byte x c a)
   unfolding Deeds.byte
   byte-wrote x = go (eqb x 13) refl
     where
-      go : (b : Bool) → eqb x 13 ≡ b → Wrote (if eqb x 13 then replyOf (asked c) c a else []) (Deeds.byte x c a)
-      go true e = rw (e, Deeds.byte) (answer-wrote (asked c))
+      go : (b : Bool) → eqb x 13 ≡ b → Wrote (if eqb x 13 then replyOf (asked c (a .program)) c a else []) (Deeds.byte x c a)
+      go true e = rw (e, Deeds.byte) (answer-wrote (asked c (a .program)))
       go false e = rw (e, Deeds.byte) (record { out = refl; written = refl })
 
   tick-written : ticked c a .written ≡ 0
@@ -152,7 +152,7 @@ module _ (c : Controller) (a : Areas) where
       let P : Deed → Type 0 = λ x. x .written ≡ 0 in
       if-case P (eqb n 1) (λ _. if-case P (c .run .on) (λ _. refl) (λ _. refl)) (λ _. if-case P (c .run .on) (λ _. refl) (λ _. refl))
 
-  does-wrote : (k : Call) → isEmptying k ≡ false → Wrote (if isEnd k then replyOf (asked c) c a else []) (does k c a)
+  does-wrote : (k : Call) → isEmptying k ≡ false → Wrote (if isEnd k then replyOf (asked c (a .program)) c a else []) (does k c a)
   unfolding does powerUp load
   does-wrote powerOn e = record { out = refl; written = refl }
   does-wrote (byte x) e = byte-wrote x
@@ -192,7 +192,8 @@ answers-as-told ms m other ok = go (stepped (after unpowered ms) m)
     h : Held
     h = after unpowered ms
 
-    same : (if isEnd (m .call) then replyOf (asked (h .state)) (h .state) (m .areas) else []) ≡ answerTo (m .call) (told ms) (m .areas .program)
+    same : (if isEnd (m .call) then replyOf (asked (h .state) (m .areas .program)) (h .state) (m .areas) else [])
+        ≡ answerTo (m .call) (told ms) (m .areas .program)
     same = ap (λ r. if isEnd (m .call) then r else []) (answer-as-told (told ms) (h .state) (held-as-told ms) (m .areas))
 
     go : Step h m → let r = answerTo (m .call) (told ms) (m .areas .program) in

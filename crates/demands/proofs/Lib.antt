@@ -31,4 +31,5 @@ pub mod MadeByCalls
 pub mod Exactly
 pub mod Due
 pub mod Specials
+pub mod BadLines
 pub mod Errors

@@ -77,15 +77,15 @@ module _ (t : Told) (c : Controller) (a : Areas) (g : Agrees t c) where
   press-lines n b = either-true (eqb n 1) (eqb n 2) b (λ e. rw (eqb-true n 1 e) start-stop-lines) (λ e. rw (eqb-true n 2 e) pause-lines)
 
   module _ (s : Said) where
-    byte-lines : (x : ℕ) → Hears (finished (byte x) c) s → Deeds.byte x c a .lines ≡ ran (byte x) s a t .lines
+    byte-lines : (x : ℕ) → Hears (finished (byte x) c a) s → Deeds.byte x c a .lines ≡ ran (byte x) s a t .lines
     unfolding Deeds.byte finished
     byte-lines x h = go (eqb x 13) refl
       where
         go : (b : Bool) → eqb x 13 ≡ b → Deeds.byte x c a .lines ≡ ran (byte x) s a t .lines
-        go true e = let is : x ≡ 13 = eqb-true x 13 e in rw is (command-lines (asked c) s (rw is at h))
+        go true e = let is : x ≡ 13 = eqb-true x 13 e in rw is (command-lines (asked c (a .program)) s (rw is at h))
         go false e = rw (silent 0 h (rw e), e)
 
-    does-lines : (k : Call) → Checked k c a → isPowerOn k ≡ false → Hears (finished k c) s → does k c a .lines ≡ ran k s a t .lines
+    does-lines : (k : Call) → Checked k c a → isPowerOn k ≡ false → Hears (finished k c a) s → does k c a .lines ≡ ran k s a t .lines
     unfolding does finished emptyLog writing
     does-lines powerOn ch other h = absurd (true≢false other)
     does-lines (byte x) ch other h = byte-lines x h

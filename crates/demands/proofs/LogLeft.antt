@@ -59,19 +59,19 @@ module _ (cs : List Change) (l : Log) (area : List ℕ) (new : Change) (enough :
 -- a byte, a tick or a press that is taken
 module _ (t : Told) (h : Held) (m : Made) (g : Agrees t (h .state)) (i : Invariant (h .state)) (other : isPowerOn (m .call) ≡ false)
     (cs : List Change) (o : Ordinary (m .call)) (n : Counted cs (h .state)) where
-  logs : isAccepted h m ≡ true → Step h m → let x = logged (m .call) (h .state) (deed h m) in
+  logs : isAccepted h m ≡ true → Step h m → let x = logged (m .call) (h .state) (m .areas) (deed h m) in
       Counts (cs ++ change t (note h m)) (x .log) × (x .area ≡ logBy (R (h .state .log)) cs (change t (note h m)) (m .areas .log))
       × (leastArea ≤ x .log .length)
   logs ok (fails bad _ e f) = absurd (true≢false (sym ok ∙ bad))
   logs ok (passes _ ch e f) =
       let enough = log-long (h .state) (m .areas .log) (checked-log (m .call) (h .state) (m .areas) other ch) .0 in
       let x = deed h m .state in
-      let two = by-test cs (h .state .log) (m .areas .log) (changeOf (m .call) (h .state) x) enough (counts-of cs (h .state) n enough)
-      (eqb (h .state .run .outputs) (x .run .outputs)) (logged (m .call) (h .state) (deed h m)) (logged-is (m .call) (h .state) (m .areas) o) in
+      let two = by-test cs (h .state .log) (m .areas .log) (changeOf (m .call) (h .state) (m .areas) x) enough (counts-of cs (h .state) n enough)
+      (eqb (h .state .run .outputs) (x .run .outputs)) (logged (m .call) (h .state) (m .areas) (deed h m)) (logged-is (m .call) (h .state) (m .areas) o) in
       let same = change-as-told t h m g i other ok ch e in (
         rw same (two .0),
         two .1 ∙ ap (λ new. logBy (R (h .state .log)) cs new (m .areas .log)) (sym same),
-        omega (arith, logged-length (m .call) (h .state) (deed h m), ap (λ (y : Log). y .length) (does-log (m .call) (h .state) (m .areas) o)),
+        omega (arith, logged-length (m .call) (h .state) (m .areas) (deed h m), ap (λ (y : Log). y .length) (does-log (m .call) (h .state) (m .areas) o)),
       )
 
   ordinary-next : Step h m → Counted (cs ++ change t (note h m)) (next h m .state)

@@ -64,8 +64,9 @@ module _ (t : Told) (h : Held) (m : Made) (g : Agrees t (h .state)) (i : Invaria
           let x = deed h m in
           let held = held-by cs h (m .areas .log) tl (checked-log (m .call) (h .state) (m .areas) other ch) (hands .log other ok) in
           rw (f, change-as-told t h m g i other ok ch e)
-          (tells (by-test cs (eqb (h .state .run .outputs) (x .state .run .outputs)) (h .state .log) (m .areas .log) (changeOf (m .call) (h .state) (x .state))
-          (logged (m .call) (h .state) x) held (logged-is (m .call) (h .state) (m .areas) o)))
+          (tells (by-test cs (eqb (h .state .run .outputs) (x .state .run .outputs)) (h .state .log) (m .areas .log)
+          (changeOf (m .call) (h .state) (m .areas) (x .state))
+          (logged (m .call) (h .state) (m .areas) x) held (logged-is (m .call) (h .state) (m .areas) o)))
 
 -- power-on begins a log, or leaves none
 at-power-on : (h : Held) (a : Areas) → Tells [] (next h (record { call = powerOn; areas = a }))

@@ -11,7 +11,6 @@ use lib.Dec.{eqb, leb, ltb}
 use borrow.Author.Tests.{eq-eqb, le-leb, leb-true, eqb-true, ltb-true}
 use Rattle.formats.specs.Checks.{_>>_, _orElse_}
 use Rattle.formats.proofs.Checks.{if-case, both-true, either-true, all-append, or-true}
-use Rattle.lines.proofs.Places.{length-cleaned}
 use Rattle.running.specs.declared.Run.{Run}
 use Rattle.running.specs.Running as Running
 use Rattle.log.specs.declared.Change.{Change}
@@ -35,8 +34,8 @@ use Rattle.demands.specs.Seen.{seen, note, notes}
 use Rattle.demands.specs.Told.{powered, tell, told}
 use Rattle.demands.specs.Changes.{since, changes}
 use Rattle.demands.specs.LentBytes.{lendsBytes, lendBytes}
-use Rattle.demands.specs.Sent.{zeros, lentBy, making, makingAll, firstLent, fromPowerOn, MadeBy, Emptied}
-use Rattle.demands.proofs.OfBytes.{zeros-bytes, cleaned-bytes}
+use Rattle.demands.specs.Sent.{lentBy, making, makingAll, firstLent, fromPowerOn, MadeBy, Emptied}
+use Rattle.demands.proofs.OfBytes.{zeros-bytes}
 use Rattle.demands.proofs.Answered.{next-invariant}
 use Rattle.demands.proofs.Changing.{changing}
 use Rattle.demands.proofs.Telling.{fresh-agrees, agrees-next}
@@ -174,9 +173,9 @@ module _ (n : ℕ) (size : isArea n ≡ true) where
         fit = record {
           size = size;
           invariant = next-invariant unpowered (powering (firstLent n)) (fresh-invariant 0);
-          program = rw powered-is (length-cleaned 200 (zeros 1600));
+          program = rw powered-is (length-zeros 1600);
           log = rw powered-is (length-zeros n);
-          programBytes = rw powered-is (cleaned-bytes 200 (zeros 1600));
+          programBytes = rw powered-is (zeros-bytes 1600);
           logBytes = rw powered-is (zeros-bytes n);
           same = rw powered-is (length-zeros n);
         };

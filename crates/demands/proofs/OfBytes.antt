@@ -5,17 +5,16 @@ use Prim.Native.Nat.{ℕ, zero, suc, _+_, _*_, _<_}
 use native.Mathlib.Omega.{arith}
 use mathlib.Core.Bool.{true}
 use mathlib.Core.List.{List}
-use lib.ListN.{take, drop, replicate}
+use lib.ListN.{take, replicate}
 use lib.Dec.{leb, ltb}
 use borrow.Author.Tests.{lt-ltb, leb-true}
 use Rattle.formats.specs.Bytes.{bytes, placed, areBytes}
 use Rattle.formats.proofs.Checks.{if-case, both-true, all-take, all-drop, all-append}
 use Rattle.formats.proofs.Digits.{isBelow, digits-below}
 use Rattle.lines.specs.declared.Line.{Line}
-use Rattle.lines.specs.declared.Line.the-variants.{State, For, Next}
-use Rattle.lines.specs.Line.{isCounter, readLine, bytesOf}
-use Rattle.lines.specs.Program.{cleanedLines}
-use Rattle.lines.proofs.Lines.{Ranged, read-ranged}
+use Rattle.lines.specs.declared.Line.the-variants.{State, For, Next, Bad}
+use Rattle.lines.specs.Line.{isCounter, bytesOf}
+use Rattle.lines.proofs.Lines.{Ranged}
 use Rattle.log.specs.declared.Change.{Change}
 use Rattle.log.specs.declared.Log.{Log}
 use Rattle.log.specs.Record.{recordSize, changeRecord, gapRecord}
@@ -55,13 +54,7 @@ line-bytes (State o t) r = all-append (isBelow 256) (bytes 4 o) (bytes 2 t) (dig
 line-bytes (For c n) r =
     rw (counter-byte c (r .range .0)) (all-append (isBelow 256) (bytes 2 n) (replicate 4 0) (digits-bytes 2 n) refl)
 line-bytes (Next c) r = rw (counter-byte c (r .range)) refl
-
--- so is a cleaned program
-pub cleaned-bytes : (n : ℕ) (p : List ℕ) → areBytes (cleanedLines n p) ≡ true
-unfolding cleanedLines
-cleaned-bytes zero p = refl
-cleaned-bytes (suc n) p =
-    all-append (isBelow 256) (bytesOf (readLine p)) _ (line-bytes (readLine p) (read-ranged p)) (cleaned-bytes n (drop 8 p))
+line-bytes Bad r = refl
 
 -- ---- records
 

@@ -1,7 +1,7 @@
 -- Demand 2, read-back: "A line accepted by a write is read back as that line until a later write, a load or a power-on replaces
 -- it." For 000-199 and for 200; by three digits, by I and by D.
 -- Assumes nothing.
-use mathlib.Core.Path.{_≡_, refl, sym, ap, _∙_}
+use mathlib.Core.Path.{_≡_, refl, sym, ap, subst, _∙_}
 use Prim.Native.Nat.{ℕ, _≤_}
 use native.Mathlib.Omega.{arith}
 use mathlib.Core.Bool.{Bool, true, false, _&&_, true≢false}
@@ -9,11 +9,12 @@ use mathlib.Core.List.{List, [], _∷_, _++_, head-eq-of-cons-eq}
 use lib.ListN.{length}
 use lib.Dec.{eqb, leb}
 use borrow.Author.Tests.{le-leb}
-use Rattle.formats.specs.Checks.{if_then_else_, Res, refused, passed, text}
+use Rattle.formats.specs.Checks.{if_then_else_, Res, refused, passed, _>>=_, text, Ok}
 use Rattle.formats.specs.Digits.{errorText}
 use Rattle.formats.proofs.Checks.{ok-at, and-false, and-swap}
 use Rattle.lines.specs.declared.Line.{Line}
-use Rattle.lines.proofs.Lines.{Fits}
+use Rattle.lines.specs.Line.{isBad}
+use Rattle.lines.proofs.Lines.{Fits, fits-good}
 use Rattle.texts.specs.Text.{lineText}
 use Rattle.texts.proofs.Texts.{Sent}
 use Rattle.running.specs.declared.Run.{Run}
@@ -24,18 +25,20 @@ use Rattle.wire.specs.declared.Asked.{Asked}
 use Rattle.wire.specs.declared.Asked.the-variants.{Write}
 use Rattle.wire.specs.declared.Data.the-variants.{WriteLine}
 use Rattle.wire.specs.Naming.{Names}
+use Rattle.wire.specs.Command.{command}
 use Rattle.wire.proofs.Says.{Spoken, command-says}
 use Rattle.wire.proofs.Commands.{read-asked, WritesLine, write-asked, write-accepted}
 use Rattle.controller.specs.declared.Controller.{Controller}
 use Rattle.controller.specs.Controller.{mode, Areas}
-use Rattle.controller.specs.Variables.{lineOf}
-use Rattle.controller.specs.Deeds.{ended, asked, answer}
+use Rattle.controller.specs.Variables.{lineOf, isBadAt}
+use Rattle.controller.specs.Deeds.{ended, legible, asked, answer}
 use Rattle.controller.specs.Deeds as Deeds
 use Rattle.controller.specs.Refusals.{Call, powerOn, byte, tick, press, emptying}
 use Rattle.controller.specs.Effects.{finished, specialCode, writesLine, isPowerOn, replaces}
 use Rattle.controller.specs.Calls.{does}
 use Rattle.controller.specs.Invariant.{Invariant}
 use Rattle.controller.proofs.Refusals.{Checked, program-long}
+use Rattle.controller.proofs.Legible.{write-stays, read-stays, asked-ok}
 use Rattle.controller.proofs.Lines.{replyOf, lineIn, write-stores, answered-line, line-kept}
 use Rattle.demands.specs.Histories.{ending, Made, Held, unpowered, outcome, isAccepted, isLentProgram, next, after, HandsOn, AllHandOn}
 use Rattle.demands.specs.Seen.{isTaken, reply, seen, seenOf, note, notes}
@@ -69,41 +72,46 @@ accepted-line h m k lent f = ap (λ (g : Held). lineAtAddress g k) f ∙ rw lent
 module _ (h : Held) (t : Told) (g : Agrees t (h .state)) (a : Areas) (k : ℕ) (address line : List ℕ) (inside : k ≤ 200)
     (arrived : Arrives t (text "CW" ++ (address ++ line))) (named : Names (t .nextWrite) k address) (taken : isAccepted h (ending a) ≡ true) where
   -- what is asked, where the answer is OK
-  asked-write : reply (seenOf (outcome h (ending a))) ≡ ended (text "OK") → (q : Asked) × (asked (h .state) ≡ passed q)
-  asked-write ok = go (asked (h .state)) refl
+  asked-write : reply (seenOf (outcome h (ending a))) ≡ ended (text "OK") → (q : Asked) × (asked (h .state) (a .program) ≡ passed q)
+  asked-write ok = go (asked (h .state) (a .program)) refl
     where
-      go : (r : Res Asked) → asked (h .state) ≡ r → (q : Asked) × (asked (h .state) ≡ passed q)
+      go : (r : Res Asked) → asked (h .state) (a .program) ≡ r → (q : Asked) × (asked (h .state) (a .program) ≡ passed q)
       go (refused e) f = absurd (not-ok e (ap (λ r. replyOf r (h .state) a) (sym f) ∙ sym (reply-is h a taken) ∙ ok))
       go (passed q) f = (q, f)
 
-  -- The address then shows the characters that were sent.
-  written-line : reply (seenOf (outcome h (ending a))) ≡ ended (text "OK") → lineText (lineAtAddress (next h (ending a)) k) ≡ line
+  -- what holds of all that passes the checks holds of what is asked
+  of-asked : (P : Asked → Type 0) {q : Asked} → Ok P (command (h .state .wire) (mode (h .state)) (h .state .panel .parameter))
+      → asked (h .state) (a .program) ≡ passed q → P q
+  of-asked P ok e = ok-at P (asked-ok (h .state) (a .program) P ok) e
+
+  -- The address then holds the line that was sent.
+  written-line : reply (seenOf (outcome h (ending a))) ≡ ended (text "OK") → Sent line (lineAtAddress (next h (ending a)) k)
   unfolding does Deeds.byte
   written-line ok =
       let q = asked-write ok in
-      let short = ok-at (Spoken (h .state .wire)) (command-says (h .state .wire) (mode (h .state)) (h .state .panel .parameter)) (q .1) .short in
-      let p = ok-at (WritesLine k line)
+      let short = of-asked (Spoken (h .state .wire)) (command-says (h .state .wire) (mode (h .state)) (h .state .panel .parameter)) (q .1) .short in
+      let p = of-asked (WritesLine k line)
       (write-asked (h .state .wire) (mode (h .state)) (h .state .panel .parameter) short k address line (arrives-sent t (h .state) g _ arrived short)
       (rw (g .wire .nextWrite) named) inside) (q .1) in
       go (p .line) (q .1 ∙ ap passed (p .writes)) (stepped h (ending a)) (p .sentAs)
     where
-      go : (l : Line) → asked (h .state) ≡ passed (Write k (WriteLine l)) → Step h (ending a) → Sent line l
-          → lineText (lineAtAddress (next h (ending a)) k) ≡ line
+      go : (l : Line) → asked (h .state) (a .program) ≡ passed (Write k (WriteLine l)) → Step h (ending a) → Sent line l
+          → Sent line (lineAtAddress (next h (ending a)) k)
       go l e (fails bad n _ f) s = absurd (true≢false (sym taken ∙ bad))
       go l e (passes _ ch _ f) s =
           let len : length (a .program) ≡ 1600 = program-long (ch .checks .0) in
-          ap lineText
-          (accepted-line h (ending a) k refl f ∙ ap (λ r. lineIn (answer r (h .state) a) k) e ∙ answered-line k (WriteLine l) (h .state) a k
-          ∙ write-stores l k _ a inside len (s .fits))
-          ∙ s .shows
+          subst (Sent line)
+          (sym (accepted-line h (ending a) k refl f ∙ ap (λ r. lineIn (answer r (h .state) a) k) e ∙ answered-line k (WriteLine l) (h .state) a k
+          ∙ write-stores l k _ a inside len (s .fits)))
+          s
 
 -- ---- the calls after it leave it
 
 -- what does not replace the line by the history does not replace it in the box
-replaces-as-told : (k : ℕ) (n : Call) (c : Controller) (s : Said) → isPowerOn n ≡ false → Hears (finished n c) s → replacedBy k s ≡ false
-    → replaces k n c ≡ false
+replaces-as-told : (k : ℕ) (n : Call) (c : Controller) (a : Areas) (s : Said) → isPowerOn n ≡ false → Hears (finished n c a) s → replacedBy k s ≡ false
+    → replaces k n c a ≡ false
 unfolding replaces
-replaces-as-told k n c s other h u = rw other (go (finished n c) s h u)
+replaces-as-told k n c a s other h u = rw other (go (finished n c a) s h u)
   where
     go : (r : Res Asked) (s : Said) → Hears r s → replacedBy k s ≡ false → (if writesLine k r then true else (leb k 199 && eqb (specialCode r) 7)) ≡ false
     go r s (anError e) u = and-false (leb k 199)
@@ -118,7 +126,7 @@ module _ (k : ℕ) (h : Held) (a : Areas) (inside : k ≤ 200) (i : Invariant (h
   lent-keeps : (n : Call)
       → let m : Made = record { call = n; areas = a } in
       isPowerOn n ≡ false → isLentProgram n ≡ true → HandsOn h m → isAccepted h m ≡ true → Checked n (h .state) a → next h m ≡ heldThen h m
-      → replaces k n (h .state) ≡ false
+      → replaces k n (h .state) a ≡ false
       → lineAtAddress (next h m) k ≡ lineAtAddress h k
   lent-keeps n other lent hands ok ch f u =
       accepted-line h (record { call = n; areas = a }) k lent f ∙ line-kept n k (h .state) a i ch inside u
@@ -129,7 +137,7 @@ module _ (k : ℕ) (h : Held) (a : Areas) (inside : k ≤ 200) (i : Invariant (h
   emptying-keeps f = ap (λ (g : Held). lineAtAddress g k) f
 
   accepted-keeps : (n : Call) → let m : Made = record { call = n; areas = a } in
-      isPowerOn n ≡ false → HandsOn h m → isAccepted h m ≡ true → Checked n (h .state) a → next h m ≡ heldThen h m → replaces k n (h .state) ≡ false
+      isPowerOn n ≡ false → HandsOn h m → isAccepted h m ≡ true → Checked n (h .state) a → next h m ≡ heldThen h m → replaces k n (h .state) a ≡ false
       → lineAtAddress (next h m) k ≡ lineAtAddress h k
   accepted-keeps powerOn other hands ok ch f u = absurd (true≢false other)
   accepted-keeps (byte x) other hands ok ch f u = lent-keeps (byte x) other refl hands ok ch f u
@@ -148,7 +156,7 @@ call-keeps k h m t inside g i hands u = go (isPowerOn (m .call)) refl (stepped h
     go false other (passes ok ch e f) =
         let u′ : replacedBy k (said t (note h m)) ≡ false = rw (other, ok) at u in
         accepted-keeps k h (m .areas) inside i (m .call) other hands ok ch f
-        (replaces-as-told k (m .call) (h .state) (said t (note h m)) other (hears h m t g i ok) u′)
+        (replaces-as-told k (m .call) (h .state) (m .areas) (said t (note h m)) other (hears h m t g i ok) u′)
 
 lines-kept : (k : ℕ) (ms : List Made) (h : Held) (t : Told) → k ≤ 200 → Agrees t (h .state) → Invariant (h .state) → AllHandOn h ms
     → Unreplaced k t (notes h ms) → lineAtAddress (after h ms) k ≡ lineAtAddress h k
@@ -161,16 +169,20 @@ lines-kept k (m ∷ ms) h t inside g i hands u =
 -- ---- a read shows the line
 
 read-line : (h : Held) (t : Told) → Agrees t (h .state) → (a : Areas) (k : ℕ) (address : List ℕ) → k ≤ 200 → Arrives t (text "CR" ++ address)
-    → Names (t .nextRead) k address → isAccepted h (ending a) ≡ true → HandsOn h (ending a)
+    → Names (t .nextRead) k address → isAccepted h (ending a) ≡ true → HandsOn h (ending a) → isBad (lineAtAddress h k) ≡ false
     → reply (seenOf (outcome h (ending a))) ≡ ended (lineText (lineAtAddress h k))
-unfolding Variables.value
-read-line h t g a k address inside arrived named taken hands =
+unfolding Variables.value Variables.isBadAt
+read-line h t g a k address inside arrived named taken hands good =
     let short = arrives-short t (h .state) g _ arrived (read-length named) in
+    let bad = isBadAt (h .state) (a .program) in
+    let same = hands .program refl refl taken in
     reply-is h a taken
     ∙ ap (λ r. replyOf r (h .state) a)
+    (ap (λ r. r >>= legible bad)
     (read-asked (h .state .wire) (mode (h .state)) (h .state .panel .parameter) short k address (omega arith) (arrives-sent t (h .state) g _ arrived short)
     (rw (g .wire .nextRead) named))
-    ∙ rw (le-leb k 200 inside) (ap (λ p. ended (lineText (lineOf (h .state) p k))) (hands .program refl refl taken))
+    ∙ read-stays bad k (rw (le-leb k 200 inside) (ap (λ p. isBad (lineOf (h .state) p k)) same ∙ good)))
+    ∙ rw (le-leb k 200 inside) (ap (λ p. ended (lineText (lineOf (h .state) p k))) same)
 
 -- ---- the demand
 
@@ -196,13 +208,14 @@ reads-back before ms k inside a address line arrived named taken ok hands unrepl
     let wrote = before ++ (ending a ∷ []) in
     let now = wrote ++ ms in
     let gone : after unpowered wrote ≡ next h (ending a) = after-more before (ending a ∷ []) in
+    let stays : lineAtAddress (after unpowered now) k ≡ lineAtAddress (next h (ending a)) k =
+    ap (λ (x : Held). lineAtAddress x k) (after-more wrote ms)
+    ∙ lines-kept k ms (after unpowered wrote) (told wrote) inside (held-as-told wrote) (invariant-always wrote) hands unreplaced
+    ∙ ap (λ (x : Held). lineAtAddress x k) gone in
+    let sent = written-line h (told before) (held-as-told before) a k address line inside arrived named taken ok in
     read-line (after unpowered now) (told now) (held-as-told now) b k address′ inside arrived′ named′ taken′ hand
-    ∙ ap (λ (x : Held). ended (lineText (lineAtAddress x k))) (after-more wrote ms)
-    ∙ ap (λ l. ended (lineText l))
-    (lines-kept k ms (after unpowered wrote) (told wrote) inside (held-as-told wrote) (invariant-always wrote)
-    hands unreplaced)
-    ∙ ap (λ (x : Held). ended (lineText (lineAtAddress x k))) gone
-    ∙ ap ended (written-line h (told before) (held-as-told before) a k address line inside arrived named taken ok)
+    (ap isBad stays ∙ fits-good (lineAtAddress (next h (ending a)) k) (sent .fits))
+    ∙ ap (λ l. ended (lineText l)) stays ∙ ap ended (sent .shows)
 
 -- And it is answered OK: a line in its format, sent to an address of 000-200 of a box in which no program runs.
 pub line-accepted : (before : List Made) (a : Areas) (k : ℕ) → k ≤ 200
@@ -217,5 +230,7 @@ line-accepted before a k inside address l fits arrived named off taken =
     let stop : mode (h .state) ≡ M.the-variants.Stop = rw (ap (λ (r : Run). r .on) (g .run) ∙ off) in
     reply-is h a taken
     ∙ ap (λ r. replyOf r (h .state) a)
+    (ap (λ r. r >>= legible (isBadAt (h .state) (a .program)))
     (write-accepted (h .state .wire) (mode (h .state)) (h .state .panel .parameter) short k address l fits stop inside
     (arrives-sent (told before) (h .state) g _ arrived short) (rw (g .wire .nextWrite) named))
+    ∙ write-stays (isBadAt (h .state) (a .program)) k (WriteLine l))

@@ -150,7 +150,7 @@ added-area l area c fits =
 
 module _ {n : ℕ} {h : Held} (f : Fit n h) (k : Call) (o : Ordinary k) where
   -- the log area has its length after the call
-  logged-area : length (logged k (h .state) (does k (h .state) (lentBy h)) .area) ≡ n
+  logged-area : length (logged k (h .state) (lentBy h) (does k (h .state) (lentBy h)) .area) ≡ n
   logged-area =
       let c = h .state in
       let room = f .invariant .log .room (omega (arith, area-least n (f .size), f .same)) in
@@ -168,15 +168,15 @@ module _ {n : ℕ} {h : Held} (f : Fit n h) (k : Call) (o : Ordinary k) where
       go (aPress b) = refl
 
   -- the cause of a change is a byte
-  cause-byte : Taken h k → cause (finished k (h .state)) (does k (h .state) (lentBy h) .state .run .line) < 256
+  cause-byte : Taken h k → cause (finished k (h .state) (lentBy h)) (does k (h .state) (lentBy h) .state .run .line) < 256
   cause-byte t =
       let i : next h (making h k) .state .run .line < 200 = next-invariant h (making h k) (f .invariant) .run .lineInProgram in
       let lt : does k (h .state) (lentBy h) .state .run .line < 200 = rw (t .gone) at i in
-      let r = finished k (h .state) in
+      let r = finished k (h .state) (lentBy h) in
       if-case (λ c. c < 256) (writesOutputs r) (λ _. omega arith) λ _. if-case (λ c. c < 256) (eqb (specialCode r) 6) (λ _. omega arith) (λ _. omega arith)
 
   -- the log area stays one of bytes
-  logged-bytes : Taken h k → areBytes (logged k (h .state) (does k (h .state) (lentBy h)) .area) ≡ true
+  logged-bytes : Taken h k → areBytes (logged k (h .state) (lentBy h) (does k (h .state) (lentBy h)) .area) ≡ true
   logged-bytes t =
       let c = h .state in
       rw (logged-is k c (lentBy h) o)
@@ -195,13 +195,13 @@ module _ {n : ℕ} {h : Held} (f : Fit n h) (k : Call) (o : Ordinary k) where
         log = rw (t .gone) logged-area;
         programBytes = rw (t .gone, long) are;
         logBytes = rw (t .gone) (logged-bytes t);
-        same = rw (t .gone) (logged-length k (h .state) _ ∙ ap (λ (l : Log). l .length) (does-log k (h .state) (lentBy h) o) ∙ f .same);
+        same = rw (t .gone) (logged-length k (h .state) (lentBy h) _ ∙ ap (λ (l : Log). l .length) (does-log k (h .state) (lentBy h) o) ∙ f .same);
       }
 
   -- the change that it makes
   pub call-changes : Taken h k → (cs : List Change) → let x = does k (h .state) (lentBy h) .state in
       (t : Told) → Agrees t (h .state) → sinceCall cs t (note h (making h k)) k
-      ≡ cs ++ changing (h .state .run .outputs) (x .run .outputs) (cause (finished k (h .state)) (x .run .line)) (x .ticks)
+      ≡ cs ++ changing (h .state .run .outputs) (x .run .outputs) (cause (finished k (h .state) (lentBy h)) (x .run .line)) (x .ticks)
   call-changes tk cs t a = go o ∙ ap (λ ds. cs ++ ds) (change-as-told t h (making h k) a (f .invariant) (other o) (tk .ok) (tk .checks) (tk .is))
     where
       go : {j : Call} → Ordinary j → sinceCall cs t (note h (making h k)) j ≡ cs ++ change t (note h (making h k))

@@ -18,6 +18,7 @@ use Rattle.special.specs.declared.Mode.{Mode}
 use Rattle.special.specs.declared.Mode as M
 use Rattle.special.proofs.Quiet.{runs-mode}
 use Rattle.special.specs.Special.{modeOf}
+use Rattle.variables.specs.Variables as Variables
 use Rattle.wire.specs.declared.Data.{Data}
 use Rattle.wire.specs.declared.Asked.the-variants.{Write}
 use Rattle.wire.specs.Collecting.{mostChars, capital}
@@ -28,13 +29,14 @@ use Rattle.wire.proofs.Ways.{odd}
 use Rattle.wire.proofs.Quiet.{open-else, always-open}
 use Rattle.controller.specs.declared.Controller.{Controller}
 use Rattle.controller.specs.Controller.{Areas, mode}
-use Rattle.controller.specs.Deeds.{ended}
+use Rattle.controller.specs.Deeds.{ended, legible}
+use Rattle.controller.specs.Variables.{isBadAt}
 use Rattle.controller.proofs.Lines.{replyOf}
 use Rattle.demands.specs.Histories.{ending, Made, unpowered, after}
 use Rattle.demands.specs.Seen.{isTaken, reply, seen}
 use Rattle.demands.specs.Told.{told}
 use Rattle.demands.specs.ReadBack.{Arrives}
-use Rattle.demands.specs.Replies.{wireOf, commandOf, replyTo}
+use Rattle.demands.specs.Replies.{wireOf, checksOf, panelOf, replyTo}
 use Rattle.demands.specs.Specials.{due, dueThen, okOr}
 use Rattle.demands.specs.Errors.{kept}
 use Rattle.demands.proofs.Heard.{reply-is}
@@ -47,8 +49,8 @@ use Rattle.demands.proofs.Due.{done-says, special-alike}
 
 -- a write is answered OK or with the error of the check that stops it
 write-reply : {A : Type 0} (g : Res A) (r : Res Data) (k : ℕ) (c : Controller) (a : Areas)
-    → replyOf (g >> (r >>= (λ x. passed (Write k x)))) c a ≡ ended (okOr (g >> r))
-unfolding _>>=_ _>>_
+    → replyOf ((g >> (r >>= (λ x. passed (Write k x)))) >>= legible (isBadAt c (a .program))) c a ≡ ended (okOr (g >> r))
+unfolding _>>=_ _>>_ legible
 write-reply (refused e) r k c a = refl
 write-reply (passed y) (refused e) k c a = refl
 write-reply (passed y) (passed x) k c a = refl
@@ -69,7 +71,7 @@ module _ (ms : List Made) (a : Areas) (k : ℕ) (address written : List ℕ) (ca
       let short = arrives-short (told ms) c g _ arrived few in
       let checks = write-checks (c .wire) (mode c) (c .panel .parameter) short k address written (arrives-sent (told ms) c g _ arrived short)
       (rw (g .wire .nextWrite) named) can in
-      reply-is (after unpowered ms) a accepted ∙ ap (λ r. replyOf r c a) checks
+      reply-is (after unpowered ms) a accepted ∙ ap (λ r. replyOf (r >>= legible (isBadAt c (a .program))) c a) checks
       ∙ write-reply (isOpen (mode c) k orElse 5) (dataIn (mode c) (c .panel .parameter) k written) k c a
       ∙ rw (g .run, g .paused, g .panel .parameter)
 
@@ -101,7 +103,7 @@ module _ (ms : List Made) (a : Areas) (address written : List ℕ) (arrived : Ar
 
   -- one of more than 32 characters is E002, and so are its data
   long-answered : mostChars < length sentAll → IsDue
-  unfolding commandOf text _>>=_
+  unfolding checksOf text _>>=_
   long-answered many =
       let t = told ms in
       let l : length sentAll ≡ length (t .received) = sym (ap (λ (cs : List ℕ). length cs) arrived) ∙ length-map (t .received) capital in
@@ -110,7 +112,8 @@ module _ (ms : List Made) (a : Areas) (address written : List ℕ) (arrived : Ar
       let b = named-length named in
       let c = length-append address written in
       replies-as-told ms a accepted
-      ∙ ap (λ r. replyTo r t (a .program)) (odd (kept t) (wireOf t) (modeOf (t .run .on) (t .paused)) (t .parameter) (omega arith) (rw over))
+      ∙ ap (λ r. replyTo (r >>= legible (Variables.isBadAt (panelOf t) (a .program))) t (a .program))
+      (odd (kept t) (wireOf t) (modeOf (t .run .on) (t .paused)) (t .parameter) (omega arith) (rw over))
       ∙ sym (ap (λ r. ended (okOr (r >>= due (t .run .on) (t .paused) (t .parameter)))) (d-not-three written (λ z. omega arith)))
 
   -- Every write to 210, whatever its data, is answered OK or with the error that the history says. It names 210 by three digits, or by I after

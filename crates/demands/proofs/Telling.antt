@@ -42,7 +42,7 @@ fresh-agrees n = record {
 passed-agrees : (t : Told) (h : Held) (m : Made) → Agrees t (deed h m .state) → next h m ≡ heldThen h m → Agrees t (next h m .state)
 passed-agrees t h m g f =
     subst (λ (c : Controller). Agrees t c) (sym (ap (λ (x : Held). x .state) f))
-    (log-agrees t (deed h m .state) g _ (logged-length (m .call) (h .state) (deed h m)))
+    (log-agrees t (deed h m .state) g _ (logged-length (m .call) (h .state) (m .areas) (deed h m)))
 
 -- ---- what the history says of it
 

@@ -8,7 +8,7 @@ use mathlib.Core.List.{List, [], _∷_, _++_, map, append-nil, append-assoc}
 use lib.ListN.{length, length-append}
 use lib.Dec.{eqb, leb, ltb}
 use borrow.Author.Tests.{eq-eqb, ne-eqb, lt-leb, leb-true, le-ltb, ltb-true}
-use Rattle.formats.specs.Checks.{passed, all, text}
+use Rattle.formats.specs.Checks.{passed, _>>=_, all, text}
 use Rattle.formats.specs.Digits.{digits, digitChar, shown}
 use Rattle.formats.proofs.Checks.{both-true, below, all-append}
 use Rattle.formats.proofs.Digits.{isBelow, digits-below}
@@ -27,8 +27,10 @@ use Rattle.wire.proofs.Commands.{data-accepted}
 use Rattle.formats.specs.Bytes.{areBytes}
 use Rattle.controller.specs.declared.Controller.{Controller}
 use Rattle.controller.specs.Controller.{mode, withWire, withLog}
-use Rattle.controller.specs.Deeds.{Deed, asked, answer, write, writing, wroteTo, emptyCollection, ended}
+use Rattle.controller.specs.Deeds.{legible, Deed, asked, answer, write, writing, wroteTo, emptyCollection, ended}
 use Rattle.controller.specs.Deeds as Deeds
+use Rattle.controller.specs.Variables.{isBadAt}
+use Rattle.controller.proofs.Legible.{write-stays}
 use Rattle.controller.specs.Refusals.{Call, byte}
 use Rattle.controller.specs.Effects.{finished}
 use Rattle.controller.specs.Calls.{does, cause, logged}
@@ -187,12 +189,14 @@ module _ {n : ℕ} {h : Held} (f : Fit n h) (off : h .state .run .on ≡ false) 
   holds = all-collected (writeText k written) [] (h .state .wire) (f .invariant .wire) (nothing-collected (h .state .wire) empty) all-plain
 
   -- so the write is found
-  is-asked : asked (g .state) ≡ passed (Write k x)
+  is-asked : asked (g .state) (h .program) ≡ passed (Write k x)
   is-asked =
       let short : w .overlong ≡ false = holds .more ∙ le-ltb mostChars (length (writeText k written)) short-text in
       let stop : mode (h .state) ≡ M.the-variants.Stop = rw off in
       let found : sent w ≡ writeText k written = sent-whole (writeText k written) w holds short ∙ plain-capitals (writeText k written) all-plain in
-      data-accepted w (mode (h .state)) (h .state .panel .parameter) short k (shown 10 3 k) written found (byDigits refl) can (rw stop) x (rw stop says)
+      ap (λ r. r >>= legible (isBadAt (g .state) (h .program)))
+      (data-accepted w (mode (h .state)) (h .state .panel .parameter) short k (shown 10 3 k) written found (byDigits refl) can (rw stop) x (rw stop says))
+      ∙ write-stays (isBadAt (g .state) (h .program)) k x
 
   -- byte 13 does what was asked, and answers OK
   is-done : does (byte 13) (g .state) (lentBy g) ≡ writing (ended (text "OK")) (doing h w k x)
@@ -226,8 +230,8 @@ module _ {n : ℕ} {h : Held} (f : Fit n h) (off : h .state .run .on ≡ false) 
             (λ s a. call-changes (c .1) (byte 13) (aByte 13) t cs s a
             ∙ ap₂ (λ (y : Controller) r. cs ++ changing (h .state .run .outputs) (y .run .outputs) (cause r (y .run .line)) (y .ticks)) state-is is-asked)
             (none _ _));
-        is = rw gone (ap (λ (y : Controller). withLog (logged (byte 13) (g .state) (does (byte 13) (g .state) (lentBy g)) .log) y) state-is);
+        is = rw gone (ap (λ (y : Controller). withLog (logged (byte 13) (g .state) (lentBy g) (does (byte 13) (g .state) (lentBy g)) .log) y) state-is);
         program = rw gone program-is;
-        empty = rw gone (answer-empties (asked (g .state)) (g .state) (lentBy g));
+        empty = rw gone (answer-empties (asked (g .state) (h .program)) (g .state) (lentBy g));
         fit = fit-next (c .1) (byte 13) (aByte 13) t (ap (λ (l : List ℕ). length l) program-is ∙ long) (ap areBytes program-is ∙ are);
       }

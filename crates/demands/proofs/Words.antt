@@ -14,7 +14,7 @@ use Rattle.formats.proofs.Checks.{if-case}
 use Rattle.formats.proofs.Digits.{isBelow}
 use Rattle.formats.proofs.Characters.{h-byte}
 use Rattle.lines.specs.declared.Line.{Line}
-use Rattle.lines.specs.declared.Line.the-variants.{State, For, Next}
+use Rattle.lines.specs.declared.Line.the-variants.{State, For, Next, Bad}
 use Rattle.lines.proofs.Lines.{Fits, Sets, Word, fits-word}
 use Rattle.lines.proofs.Places.{line-word}
 use Rattle.running.specs.declared.Run.{Run}
@@ -88,6 +88,7 @@ module _ (k : Call) (lent : Areas) (t : Told) (word : Word (t .run .outputs)) wh
     executed-word s (State o time) h = h
     executed-word s (For c n) h = word
     executed-word s (Next c) h = word
+    executed-word s Bad h = word
 
     named-word : (s : Said) → Sets Word (lineNamed k s lent t)
     named-word s =

@@ -34,12 +34,12 @@ both : (failing 1 points ≡ []) × (failing 1 tables ≡ [])
 unfolding failing points tables calls wire variables commands running logs Exchanges.firstReply Exchanges.laterReplies Exchanges.wrote Exchanges.judged
     Exchanges.heard Exchanges.exchanged Exchanges.expecting Exchanges.completed Exchanges.answered Exchanges.called Exchanges.emptiedTo Exchanges.stepped
     Exchanges.tried Exchanges.begun Exchanges.passes Checks._>>=_ Checks._>>_ Checks._orElse_ Checks.text Digits.digits Digits.numberAfter Digits.shown
-    Digits.numberIn Digits.hIn Digits.dIn Digits.errorText Bytes.placed Line.readLine Line.bytesOf Program.lineAt Program.cleanedLines Program.firstNext
-    Program.nextAfter Text.lineText Text.counterIn Text.stateIn Text.forIn Text.nextIn Text.lineIn Running.stopped Running.onward Running.runLine
-    Running.step Running.runDue Running.start Running.tick Record.recordOf Record.changeRecord Record.gapRecord Log.addChange Log.records Log.emptied
-    Collecting.collect Collecting.sent Special.forbidden Special.specialOf Command.addressIn Command.specialIn Command.dataIn Command.readCommand
-    Command.writeCommand Command.commandIn Command.command Controller.fresh Variables.lineOf Variables.outputByte Variables.withOutputByte Variables.value
-    Deeds.writing Deeds.raise Deeds.moved Deeds.startAt Deeds.stop Deeds.load Deeds.save Deeds.special Deeds.write Deeds.answer Deeds.byte Deeds.ticked
+    Digits.numberIn Digits.hIn Digits.dIn Digits.errorText Bytes.placed Line.readLine Line.bytesOf Program.lineAt Program.firstNext Program.nextAfter
+    Text.lineText Text.counterIn Text.stateIn Text.forIn Text.nextIn Text.lineIn Running.stopped Running.onward Running.runLine Running.step Running.runDue
+    Running.start Running.tick Record.recordOf Record.changeRecord Record.gapRecord Log.addChange Log.records Log.emptied Collecting.collect Collecting.sent
+    Special.forbidden Special.specialOf Command.addressIn Command.specialIn Command.dataIn Command.readCommand Command.writeCommand Command.commandIn
+    Command.command Controller.fresh Variables.lineOf Variables.isBadAt Variables.outputByte Variables.withOutputByte Variables.value Deeds.writing
+    Deeds.raise Deeds.moved Deeds.startAt Deeds.stop Deeds.load Deeds.save Deeds.special Deeds.write Deeds.legible Deeds.answer Deeds.byte Deeds.ticked
     Deeds.pressed Deeds.emptyLog Deeds.powerUp Refusals.lent Refusals.check Effects.finished Effects.startLine Effects.replaces Calls.does Calls.logged
     Calls.call
 both = (refl, refl)

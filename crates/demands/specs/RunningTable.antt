@@ -1,7 +1,8 @@
--- 01, 'Special commands' and 'Running', and 02, items 2 and 3, computed: every command and button in every state, and every event with what it
+-- 01, 'Special commands' and 'Running', and 02, items 2 to 4, computed: every command and button in every state, and every event with what it
 -- leaves.
 use mathlib.Core.List.{List, [], _∷_}
-use Rattle.demands.specs.Exchanges.{Point, point, _⇒_, _⇒_runs_}
+use Rattle.demands.specs.Exchanges.{Point, point, _⇒_, _⇒_runs_, alters, program}
+use Rattle.demands.specs.VariablesTable.{eight}
 
 unfoldable pub commands : List Point
 commands =
@@ -181,6 +182,27 @@ running =
     ∷ "!CR211^CR206^" ⇒ "002^01^" runs 3
     ∷ "#CR211^CR206^CR201^" ⇒ "006^02^82^" runs 4
     ∷ "#CR211^CR206^CR215^CR201^CR212^" ⇒ "008^02^0000^80^013^" runs 400
+    ∷ []
+    )
+    -- 02, item 4: "Running a Bad line stops with event 014 at that line." In a loop, whose counter is freed; it is not counted, and the
+    -- outputs stay.
+    ∷ point (
+    "CW000F10003^CW001S00000000050001^CW003N1^CR212^" ⇒ "OK^OK^OK^012^"
+    ∷ alters program 16 (eight 0x53 0 0 0 0 9 0xFF 0)
+    ∷ "!" ⇒ "" runs 1
+    ∷ "CR213^CR206^" ⇒ "0003^05^"
+    ∷ "#CR201^CR206^CR211^CR213^CR212^" ⇒ "80^05^002^0000^014^"
+    -- "The search for a Next passes over it", to take the counter and to pass on; a damaged Next is none, 007
+    ∷ "CW000F10000^!CR206^CR211^CR212^" ⇒ "OK^00^004^011^" runs 1
+    ∷ alters program 24 (eight 0x4E 1 0 0 0 0 0 1)
+    ∷ "!CR211^CR212^" ⇒ "000^007^" runs 1
+    -- after exactly 400 lines it is no 401st
+    ∷ "CW000F10399^CW001N1^CW20655^!" ⇒ "OK^OK^OK^" runs 400
+    ∷ "CR206^CR211^CR212^" ⇒ "55^002^014^"
+    -- on line 199
+    ∷ "CW198S00000000060001^CW209198^" ⇒ "OK^OK^"
+    ∷ alters program 1592 (eight 0 0 0 0 0 0 0 0)
+    ∷ "CW210005^#CR206^CR211^CR212^" ⇒ "OK^06^199^014^"
     ∷ []
     )
     ∷ []

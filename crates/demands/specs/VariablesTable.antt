@@ -1,4 +1,4 @@
--- 01, 'Variables', computed: every row of the table, the eight bytes of a line, bytes that are none, load and save.
+-- 01, 'Variables', and 02, item 4, computed: every row of the table, the eight bytes of a line, bytes that are none, load and save.
 use mathlib.Core.List.{List, [], _∷_, _++_}
 use Prim.Native.Nat.{ℕ}
 use Rattle.controller.specs.Refusals.{powerOn}
@@ -18,9 +18,9 @@ sound =
     ++ (eight 0x4E 1 0 0 0 0 0 0
     ++ (eight 0x4E 4 0 0 0 0 0 0 ++ eight 0x53 0 0 0 0 5 1 0)))))
 
--- Twenty that are no line: time or count 10,000, another first byte, a second that is not 00 or 1-4, a byte that must be 0.
-abbrev pub strange : List ℕ
-strange =
+-- Twenty that are Bad: time or count 10,000, another first byte, a second that is not 00 or 1-4, a byte that must be 0.
+abbrev pub bad : List ℕ
+bad =
     eight 0x53 0 1 2 3 4 0x27 0x10
     ++ (eight 0x53 1 1 2 3 4 0 1
     ++ (eight 0x52 0 1 2 3 4 0 1
@@ -92,33 +92,36 @@ variables =
     ∷ "CR000^CR001^CR198^CR199^CR200^" ⇒ "S00123456789876^F29999^F40258^N3^N2^"
     ∷ []
     )
-    -- "Power-on and command 007 load the saved copy in that cleaned form"; the copy stays as it was
-    ∷ withCopy 27 (sound ++ strange) (
-    holds program 0 (sound ++ times 21 endMark)
+    -- power-on and command 007 load the saved copy, and "Load and save copy the bytes unaltered"; the copy stays as it was
+    ∷ withCopy 27 (sound ++ bad) (
+    holds program 0 (sound ++ (bad ++ endMark))
     ∷ holds program 1592 endMark
-    ∷ holds saved 0 (sound ++ strange)
-    ∷ "CR000^CRI^CRI^CRI^CRI^CRI^CRI^CRI^" ⇒ "S00010203049999^S00FFFFFFFF0000^F10000^F49999^N1^N4^S00000000050256^S00000000000000^"
-    ∷ "CW000N2^CW199N2^CW200N3^CW20655^CW209007^CW210007^" ⇒ "OK^OK^OK^OK^OK^OK^"
-    ∷ holds program 0 (sound ++ times 21 endMark)
+    ∷ holds saved 0 (sound ++ bad)
+    ∷ "CR000^CRI^CRI^CRI^CRI^CRI^CRI^CRI^" ⇒ "S00010203049999^S00FFFFFFFF0000^F10000^F49999^N1^N4^S00000000050256^E024^"
+    ∷ "CW000N2^CW007N2^CW199N2^CW200N3^CW20655^CW209007^CW210007^" ⇒ "OK^OK^OK^OK^OK^OK^OK^"
+    ∷ holds program 0 (sound ++ (bad ++ endMark))
     ∷ holds program 1592 endMark
-    ∷ holds saved 0 (sound ++ strange)
+    ∷ holds saved 0 (sound ++ bad)
     -- lines 000-199, and nothing else
     ∷ "CR200^CR206^CR209^CR210^CR211^CR212^" ⇒ "N3^55^007^007^000^012^"
     ∷ []
     )
-    -- "Eight bytes that are none of these count as a State with outputs 0 and time 0 wherever they are read"; "008 saves the program
-    -- area likewise cleaned, leaving the area as it was"
+    -- "Reading eight bytes now answers State, For, Next or Bad": each of the twenty is E024, and so is none of the lines beside them
     ∷ point (
-    alters program 0 strange
+    alters program 0 bad
     ∷ alters program 1592 (eight 0x46 3 0 7 0 0 0 0)
-    ∷ "CR000^CRI^CRI^CRI^CRI^CRI^CRI^" ⇒ "S00000000000000^S00000000000000^S00000000000000^S00000000000000^S00000000000000^S00000000000000^S00000000000000^"
-    ∷ "CRI^CRI^CRI^CRI^CRI^CRI^CRI^" ⇒ "S00000000000000^S00000000000000^S00000000000000^S00000000000000^S00000000000000^S00000000000000^S00000000000000^"
-    ∷ "CRI^CRI^CRI^CRI^CRI^CRI^" ⇒ "S00000000000000^S00000000000000^S00000000000000^S00000000000000^S00000000000000^S00000000000000^"
-    ∷ "CW20655^CW210006^CR206^CW20655^CR212^CW210003^CR206^CR212^CR211^" ⇒ "OK^OK^00^OK^012^OK^00^011^000^"
+    ∷ "CR000^CR001^CR002^CR003^CR004^CR005^CR006^CR007^CR008^CR009^" ⇒ "E024^E024^E024^E024^E024^E024^E024^E024^E024^E024^"
+    ∷ "CR010^CR011^CR012^CR013^CR014^CR015^CR016^CR017^CR018^CR019^" ⇒ "E024^E024^E024^E024^E024^E024^E024^E024^E024^E024^"
+    ∷ "CR020^CR199^CR200^" ⇒ "S00000000000000^F30007^S00000000000000^"
+    -- "Executing one by 006 does nothing and answers OK": 210 takes it, and outputs, line and event stay
+    ∷ "CW20655^CW210006^CR206^CR210^CR211^CR212^" ⇒ "OK^OK^55^006^000^012^"
+    -- "Running a Bad line stops with event 014 at that line"
+    ∷ "CW209019^CW210005^CR206^CR211^CR201^CR212^" ⇒ "OK^OK^55^019^80^014^"
+    -- the bytes are saved as they are, and come back so
     ∷ "CW210008^CR210^" ⇒ "OK^008^"
-    ∷ holds program 0 strange
+    ∷ holds program 0 bad
     ∷ holds program 1592 (eight 0x46 3 0 7 0 0 0 0)
-    ∷ holds saved 0 (times 21 endMark)
+    ∷ holds saved 0 (bad ++ endMark)
     ∷ holds saved 1592 (eight 0x46 3 0 7 0 0 0 0)
     ∷ "CW000N1^CW199N2^CW210008^CW000N3^CW199N4^CW210007^CR000^CR199^" ⇒ "OK^OK^OK^OK^OK^OK^N1^N2^"
     ∷ []

@@ -1,6 +1,8 @@
--- 01, 'The wire', computed: characters, the seven checks with their numbers and their order, and the addresses I and D.
+-- 01, 'The wire', and 02, item 4, computed: characters, the seven checks with their numbers and their order, E024 behind them, and the
+-- addresses I and D.
 use mathlib.Core.List.{List, [], _∷_}
-use Rattle.demands.specs.Exchanges.{Point, point, _⇒_}
+use Rattle.demands.specs.Exchanges.{Point, point, _⇒_, alters, program}
+use Rattle.demands.specs.VariablesTable.{eight}
 
 unfoldable pub wire : List Point
 wire =
@@ -141,6 +143,16 @@ wire =
     ∷ "CW210002^CW210005^CW210006^CW210009^" ⇒ "OK^E020^E020^E003^"
     -- 210 named by I, and what else answers E005 and E004: a line that is locked, and 211, which I names next
     ∷ "CW209255^CWI005^CW000N1^CWI004^CWI008^CWD200^CWI008^CR210^" ⇒ "OK^E020^E005^OK^E004^OK^E020^004^"
+    ∷ []
+    )
+    -- 02, item 4: "reading a Bad line over the wire answers E024, after the length check, and does not move the address", by digits, by I and
+    -- by D; nor does it move the other direction's. Here 005 is Bad.
+    ∷ point (
+    alters program 40 (eight 0x53 1 0 0 0 0 0 1)
+    ∷ "CR005^CR004^CRI^CRI^CRD^" ⇒ "E024^S00000000000000^E024^E024^S00000000000000^"
+    ∷ "CR005X^CR0050^CR00^CR05X^CR217^" ⇒ "E002^E002^E002^E004^E004^"
+    ∷ "CR006^CRDX^CRD^CRD^CRI^" ⇒ "S00000000000000^E002^E024^E024^S00000000000000^"
+    ∷ "CW004N2^CR005^CWIN1^CR005^CRD^" ⇒ "OK^E024^OK^N1^N2^"
     ∷ []
     )
     ∷ []

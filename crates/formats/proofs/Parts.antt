@@ -1,6 +1,6 @@
 -- Laws of parts of a list: one that is written over, one that is lent and comes back, one that is copied, and the rest of it.
 -- Assumes nothing.
-use mathlib.Core.Path.{_≡_, ap, _∙_}
+use mathlib.Core.Path.{_≡_, sym, ap, _∙_}
 use Prim.Native.Nat.{ℕ, _+_, _-_, _≤_, _<_}
 use native.Mathlib.Nat.{zero-add}
 use native.Mathlib.Numerals.{add-one}
@@ -28,6 +28,10 @@ pub copied-more : (from to : List ℕ) (i : ℕ) → i < length from → i < len
 copied-more from to i hf ht =
     let h : 0 + i < length to = omega arith in
     rw add-one (simp zero-add at (paste-suc to 0 from i 0 h hf))
+
+-- a list that is copied over another of its length
+pub copied-whole : (n : ℕ) (from to : List ℕ) → length from ≡ n → length to ≡ n → take n from ++ drop n to ≡ from
+copied-whole n from to e f = rw (take-all n from (omega arith), ap (λ i. drop i to) (sym f) ∙ drop-length to) (append-nil from)
 
 -- what a lent part `&xs[a..]` holds
 pub rest-of : (a : ℕ) (xs : List ℕ) → take (length xs - a) (drop a xs) ≡ drop a xs

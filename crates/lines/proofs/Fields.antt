@@ -13,8 +13,8 @@ use Rattle.formats.specs.Checks.{if_then_else_}
 use Rattle.formats.specs.Digits.{numberAfter, number}
 use Rattle.formats.specs.Bytes.{field}
 use Rattle.formats.proofs.Bytes.{two-at, four-at}
-use Rattle.lines.specs.declared.Line.the-variants.{State, For, Next}
-use Rattle.lines.specs.Line.{noLine, isCounter, readLine}
+use Rattle.lines.specs.declared.Line.the-variants.{State, For, Next, Bad}
+use Rattle.lines.specs.Line.{isCounter, readLine}
 
 -- two bytes and four bytes as a number
 abbrev pub pair : ℕ → ℕ → ℕ
@@ -37,21 +37,21 @@ module _ (bs : List ℕ) (le : 8 ≤ length bs) where
       ) (omega arith)
 
   pub state-bytes : {o t : ℕ} → getD bs 0 0 ≡ 0x53 → o ≡ quad (getD bs 2 0) (getD bs 3 0) (getD bs 4 0) (getD bs 5 0) → t ≡ pair (getD bs 6 0) (getD bs 7 0)
-      → (if eqb (getD bs 1 0) 0 && leb t 9999 then State o t else noLine) ≡ readLine bs
+      → (if eqb (getD bs 1 0) 0 && leb t 9999 then State o t else Bad) ≡ readLine bs
   unfolding readLine
   state-bytes first o t = rw (first, o ∙ sym (four-at bs 2 (omega arith)), t ∙ sym (two-at bs 6 (omega arith)))
 
   pub for-bytes : {n z : ℕ} → getD bs 0 0 ≡ 0x46 → n ≡ pair (getD bs 2 0) (getD bs 3 0) → z ≡ quad (getD bs 4 0) (getD bs 5 0) (getD bs 6 0) (getD bs 7 0)
-      → (if isCounter (getD bs 1 0) && leb n 9999 && eqb z 0 then For (getD bs 1 0) n else noLine) ≡ readLine bs
+      → (if isCounter (getD bs 1 0) && leb n 9999 && eqb z 0 then For (getD bs 1 0) n else Bad) ≡ readLine bs
   unfolding readLine
   for-bytes first n z = rw (first, n ∙ sym (two-at bs 2 (omega arith)), z ∙ sym (four-at bs 4 (omega arith)))
 
   pub next-bytes : {h l : ℕ} → getD bs 0 0 ≡ 0x4E → h ≡ pair (getD bs 2 0) (getD bs 3 0) → l ≡ quad (getD bs 4 0) (getD bs 5 0) (getD bs 6 0) (getD bs 7 0)
-      → (if isCounter (getD bs 1 0) && eqb (h * 4294967296 + l) 0 then Next (getD bs 1 0) else noLine) ≡ readLine bs
+      → (if isCounter (getD bs 1 0) && eqb (h * 4294967296 + l) 0 then Next (getD bs 1 0) else Bad) ≡ readLine bs
   unfolding readLine
   next-bytes first h l = rw (first, h, l, ← six)
 
 -- bytes that begin with none of the three
-pub no-line : (bs : List ℕ) → (getD bs 0 0 ≡ 0x53 → ⊥) → (getD bs 0 0 ≡ 0x46 → ⊥) → (getD bs 0 0 ≡ 0x4E → ⊥) → noLine ≡ readLine bs
+pub none-bytes : (bs : List ℕ) → (getD bs 0 0 ≡ 0x53 → ⊥) → (getD bs 0 0 ≡ 0x46 → ⊥) → (getD bs 0 0 ≡ 0x4E → ⊥) → Bad ≡ readLine bs
 unfolding readLine
-no-line bs s f n = rw (ne-eqb _ _ s, ne-eqb _ _ f, ne-eqb _ _ n)
+none-bytes bs s f n = rw (ne-eqb _ _ s, ne-eqb _ _ f, ne-eqb _ _ n)

@@ -1,8 +1,8 @@
 -- Laws of a line's eight bytes: what is read lies in its ranges, a line written is the line read, and the outputs that a line sets.
 -- Assumes nothing.
-use mathlib.Core.Path.{_≡_, refl}
+use mathlib.Core.Path.{_≡_, refl, sym}
 use Prim.Native.Nat.{ℕ, _^_, _≤_, _<_}
-use mathlib.Core.Bool.{true, _&&_}
+use mathlib.Core.Bool.{true, false, _&&_, true≢false}
 use mathlib.Core.List.{List, _++_}
 use lib.ListN.{length, getD}
 use lib.Dec.{leb, eqb}
@@ -15,8 +15,8 @@ use Rattle.formats.proofs.Checks.{if-case, both-true}
 use Rattle.formats.proofs.Digits.{isBelow}
 use Rattle.formats.proofs.Bytes.{number-bytes, field-below}
 use Rattle.lines.specs.declared.Line.{Line}
-use Rattle.lines.specs.declared.Line.the-variants.{State, For, Next}
-use Rattle.lines.specs.Line.{noLine, isCounter, isState, isFor, isNext, readLine, bytesOf}
+use Rattle.lines.specs.declared.Line.the-variants.{State, For, Next, Bad}
+use Rattle.lines.specs.Line.{isCounter, isState, isFor, isNext, isBad, readLine, bytesOf}
 
 -- ---- the ranges
 
@@ -25,15 +25,13 @@ abbrev pub Ranges : Line → Type 0
 Ranges (State outputs time) = time ≤ 9999
 Ranges (For counter count) = (isCounter counter ≡ true) × (count ≤ 9999)
 Ranges (Next counter) = isCounter counter ≡ true
+Ranges Bad = Unit {0}
 
 pub record Ranged (l : Line) : Type 0 where
   pub range : Ranges l
 
 for-ranged : {c n : ℕ} → isCounter c ≡ true → n ≤ 9999 → Ranged (For c n)
 for-ranged e le = record { range = (e, le) }
-
-none-ranged : Ranged noLine
-none-ranged = record { range = omega arith }
 
 -- Whatever the eight bytes are, the line that they are read as lies in the ranges.
 pub read-ranged : (bs : List ℕ) → Ranged (readLine bs)
@@ -52,15 +50,30 @@ read-ranged bs =
     (λ e.
     let p = both-true (eqb first 0x4E && isCounter second) (eqb (field 2 6 bs) 0) e in
     record { range = both-true (eqb first 0x4E) (isCounter second) (p .0) .1 }) λ _.
-    none-ranged
+    record { range = tt }
 
 -- ---- a line written and read
 
--- the values that the wire and the eight bytes can hold
+-- the values that the wire and the eight bytes can hold; a Bad line has none
 abbrev pub Fits : Line → Type 0
 Fits (State outputs time) = (outputs < 256 ^ 4) × (time ≤ 9999)
 Fits (For counter count) = (isCounter counter ≡ true) × (count ≤ 9999)
 Fits (Next counter) = isCounter counter ≡ true
+Fits Bad = ⊥
+
+-- what the test says
+pub is-bad : (l : Line) → isBad l ≡ true → l ≡ Bad
+is-bad (State o t) e = absurd (true≢false (sym e))
+is-bad (For c n) e = absurd (true≢false (sym e))
+is-bad (Next c) e = absurd (true≢false (sym e))
+is-bad Bad e = refl
+
+-- a line whose values fit is not Bad
+pub fits-good : (l : Line) → Fits l → isBad l ≡ false
+fits-good (State o t) f = refl
+fits-good (For c n) f = refl
+fits-good (Next c) f = refl
+fits-good Bad f = absurd f
 
 -- a time or a count fits two bytes
 two : (v : ℕ) → v ≤ 9999 → number 256 (bytes 2 v) ≡ v
@@ -72,12 +85,14 @@ unfolding readLine bytesOf digits numberAfter
 bytes-back (State o t) r f = let a = number-bytes 4 o (f .0) in let b = two t (f .1) in rw (a, b, le-leb t 9999 (f .1))
 bytes-back (For c n) r f = let b = two n (f .1) in rw (f .0, b, le-leb n 9999 (f .1))
 bytes-back (Next c) r f = rw f
+bytes-back Bad r f = absurd f
 
 pub length-bytes : (l : Line) → length (bytesOf l) ≡ 8
 unfolding bytesOf digits
 length-bytes (State o t) = refl
 length-bytes (For c n) = refl
 length-bytes (Next c) = refl
+length-bytes Bad = refl
 
 -- ---- the outputs that a line sets
 
@@ -86,6 +101,7 @@ abbrev pub Sets : (ℕ → Type 0) → Line → Type 0
 Sets P (State outputs time) = P outputs
 Sets P (For counter count) = Unit {0}
 Sets P (Next counter) = Unit {0}
+Sets P Bad = Unit {0}
 
 -- a word is a number of four bytes
 abbrev pub Word : ℕ → Type 0
@@ -95,6 +111,7 @@ pub fits-word : (l : Line) → Fits l → Sets Word l
 fits-word (State o t) f = f .0
 fits-word (For c n) f = tt
 fits-word (Next c) f = tt
+fits-word Bad f = tt
 
 -- A line that is read in bytes sets a word, if it sets any.
 pub read-word : (bs : List ℕ) → all (isBelow 256) bs ≡ true → Sets Word (readLine bs)
@@ -102,4 +119,4 @@ unfolding readLine
 read-word bs are =
     if-case (Sets Word) (isState bs) (λ _. field-below 2 4 bs are) λ _.
     if-case (Sets Word) (isFor bs) (λ _. tt) λ _.
-    if-case (Sets Word) (isNext bs) (λ _. tt) (λ _. omega arith)
+    if-case (Sets Word) (isNext bs) (λ _. tt) (λ _. tt)

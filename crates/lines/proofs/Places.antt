@@ -2,11 +2,10 @@
 -- Assumes nothing.
 use mathlib.Core.Path.{_≡_, refl, sym, ap, _∙_}
 use mathlib.Core.Logic.{_≢_}
-use Prim.Native.Nat.{ℕ, zero, suc, _+_, _*_, _≤_}
+use Prim.Native.Nat.{ℕ, _+_, _*_, _≤_}
 use mathlib.Core.Bool.{true}
 use mathlib.Core.List.{List, [], _∷_, append-nil}
-use lib.ListN.{length, take, drop, length-append}
-use native.Mathlib.Omega.{arith}
+use lib.ListN.{length, take, drop}
 use Rattle.formats.specs.Checks.{all}
 use Rattle.formats.specs.Bytes.{part}
 use Rattle.formats.proofs.Checks.{all-drop}
@@ -14,7 +13,7 @@ use Rattle.formats.proofs.Digits.{isBelow}
 use Rattle.formats.proofs.Places.{same-place, other-place}
 use Rattle.lines.specs.declared.Line.{Line}
 use Rattle.lines.specs.Line.{readLine, bytesOf}
-use Rattle.lines.specs.Program.{lineAt, putLine, cleanedLines}
+use Rattle.lines.specs.Program.{lineAt, putLine}
 use Rattle.lines.proofs.Lines.{Ranged, read-ranged, Fits, bytes-back, length-bytes, Sets, Word, read-word}
 
 -- ---- one line alone
@@ -57,10 +56,3 @@ module _ (j : ℕ) (l : Line) (p : List ℕ) (inside : 8 * j + 8 ≤ length p) w
   -- Every other line stays.
   pub put-other : (k : ℕ) → k ≢ j → lineAt (putLine j l p) k ≡ lineAt p k
   put-other k ne = same-line (putLine j l p) p k (other-place 8 j (bytesOf l) p (length-bytes l) inside k ne)
-
--- ---- the cleaned form
-
-pub length-cleaned : (n : ℕ) (p : List ℕ) → length (cleanedLines n p) ≡ 8 * n
-unfolding cleanedLines
-length-cleaned zero p = refl
-length-cleaned (suc n) p = simp (length-append, length-bytes, length-cleaned n (drop 8 p)) (omega arith)

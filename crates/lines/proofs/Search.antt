@@ -4,26 +4,17 @@ use mathlib.Core.Path.{_≡_, refl, sym, ap, _∙_}
 use mathlib.Core.Logic.{_≢_}
 use Prim.Native.Nat.{ℕ, zero, suc, _+_, _*_, _-_, _≤_, _<_}
 use mathlib.Core.Bool.{Bool, true, false, true≢false}
-use mathlib.Core.List.{List, [], _∷_}
+use mathlib.Core.List.{List}
 use lib.ListN.{getD, drop}
 use lib.Dec.{eqb, ltb}
 use lib.Seq.{drop-drop, getD-drop}
 use borrow.Author.Tests.{eqb-true, eqb-false, eq-eqb, ne-eqb, ltb-true, ltb-false}
 use native.Mathlib.Omega.{arith}
-use types.Run.{OneOf, miss}
-use denote.Enum.Declared.{tagOf}
 use Rattle.formats.proofs.Checks.{if-case, both-true}
-use Rattle.lines.proofs.Line as L
 use Rattle.lines.specs.declared.Line.{Line}
-use Rattle.lines.specs.declared.Line.the-variants.{State, For, Next}
+use Rattle.lines.specs.declared.Line.the-variants.{State, For, Next, Bad}
 use Rattle.lines.specs.Line.{isState, isFor, isNext, readLine}
 use Rattle.lines.specs.Program.{lineAt, isNextOf, firstNext, nextAfter, FirstFrom, NoneFrom}
-
--- a line that is no Next
-pub no-next : (c : ℕ) (l : Line) → OneOf (0 ∷ 1 ∷ []) (tagOf L.the-type l) → false ≡ isNextOf c l
-no-next c (State o t) h = refl
-no-next c (For n m) h = refl
-no-next c (Next n) h = absurd (miss (0 ∷ 1 ∷ []) 2 tt h)
 
 -- A line whose first byte is not 4E, or whose second is not c, is no Next of counter c.
 module _ (c : ℕ) (p : List ℕ) (k : ℕ) where
@@ -82,6 +73,7 @@ is-next : (c : ℕ) (l : Line) → isNextOf c l ≡ true → l ≡ Next c
 is-next c (State o t) e = absurd (true≢false (sym e))
 is-next c (For n m) e = absurd (true≢false (sym e))
 is-next c (Next n) e = let is : c ≡ n = eqb-true c n e in rw is
+is-next c Bad e = absurd (true≢false (sym e))
 
 is-no-next : (c : ℕ) (l : Line) → isNextOf c l ≡ false → l ≢ Next c
 is-no-next c l e is = true≢false (sym (ap (isNextOf c) is ∙ eq-eqb c c refl) ∙ e)

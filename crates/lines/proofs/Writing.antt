@@ -6,7 +6,7 @@ use mathlib.Core.List.{List, [], _∷_}
 use lib.ListN.{getD}
 use Rattle.formats.specs.Digits.{digits}
 use Rattle.lines.specs.declared.Line.{Line}
-use Rattle.lines.specs.declared.Line.the-variants.{State, For, Next}
+use Rattle.lines.specs.declared.Line.the-variants.{State, For, Next, Bad}
 use Rattle.lines.specs.Line.{bytesOf}
 
 -- eight elements of a list
@@ -19,3 +19,4 @@ unfolding bytesOf digits
 eight-bytes (State o t) b e = rw e
 eight-bytes (For c n) b e = rw e
 eight-bytes (Next c) b e = rw e
+eight-bytes Bad b e = rw e

@@ -1,22 +1,18 @@
 -- Eight bytes as a line, and a line as eight bytes.
--- 01, 'Variables': "A line is 8 bytes. [...] Times and counts are at most 9999."
+-- 01, 'Variables': "A line is 8 bytes. [...] Times and counts are at most 9999." 02, item 4: "Reading eight bytes now answers State, For, Next or Bad".
 use Prim.Native.Nat.{ℕ}
-use mathlib.Core.Bool.{Bool, _&&_}
+use mathlib.Core.Bool.{Bool, true, false, _&&_}
 use mathlib.Core.List.{List, _∷_, _++_}
 use lib.ListN.{getD, replicate}
 use lib.Dec.{leb, eqb}
 use Rattle.formats.specs.Checks.{if_then_else_}
 use Rattle.formats.specs.Bytes.{field, bytes}
 use Rattle.lines.specs.declared.Line.{Line}
-use Rattle.lines.specs.declared.Line.the-variants.{State, For, Next}
+use Rattle.lines.specs.declared.Line.the-variants.{State, For, Next, Bad}
 
 -- the end mark with outputs 0
 abbrev pub endMark : Line
 endMark = State 0 0
-
--- "Eight bytes that are none of these count as a State with outputs 0 and time 0 wherever they are read (*house*)."
-abbrev pub noLine : Line
-noLine = State 0 0
 
 -- a loop counter is 1 to 4
 abbrev pub isCounter : ℕ → Bool
@@ -34,15 +30,23 @@ isFor bs = eqb (getD bs 0 0) 0x46 && isCounter (getD bs 1 0) && leb (field 2 2 b
 abbrev pub isNext : List ℕ → Bool
 isNext bs = eqb (getD bs 0 0) 0x4E && isCounter (getD bs 1 0) && eqb (field 2 6 bs) 0
 
--- The line that the first eight bytes say.
+-- The line that the first eight bytes say: Bad, where they are none of these.
 unfoldable pub readLine : List ℕ → Line
 readLine bs =
     if isState bs then State (field 2 4 bs) (field 6 2 bs)
     else if isFor bs then For (getD bs 1 0) (field 2 2 bs)
     else if isNext bs then Next (getD bs 1 0)
-    else noLine
+    else Bad
 
+abbrev pub isBad : Line → Bool
+isBad (State outputs time) = false
+isBad (For counter count) = false
+isBad (Next counter) = false
+isBad Bad = true
+
+-- The eight bytes of a line. No Bad line is ever written (`texts/Texts.never-bad`); what stands for one here are eight bytes that are Bad.
 unfoldable pub bytesOf : Line → List ℕ
 bytesOf (State outputs time) = 0x53 ∷ 0 ∷ (bytes 4 outputs ++ bytes 2 time)
 bytesOf (For counter count) = 0x46 ∷ counter ∷ (bytes 2 count ++ replicate 4 0)
 bytesOf (Next counter) = 0x4E ∷ counter ∷ replicate 6 0
+bytesOf Bad = replicate 8 0

@@ -3,12 +3,12 @@ use Prim.Native.Nat.{ℕ, zero, suc, _+_, _*_, _-_, _≤_, _<_}
 use mathlib.Core.Path.{_≡_}
 use mathlib.Core.Logic.{_≢_}
 use mathlib.Core.Bool.{Bool, true, false}
-use mathlib.Core.List.{List, [], _++_}
+use mathlib.Core.List.{List}
 use lib.ListN.{drop}
 use lib.Dec.{eqb}
 use Rattle.formats.specs.Bytes.{placed}
 use Rattle.lines.specs.declared.Line.{Line}
-use Rattle.lines.specs.declared.Line.the-variants.{State, For, Next}
+use Rattle.lines.specs.declared.Line.the-variants.{State, For, Next, Bad}
 use Rattle.lines.specs.Line.{readLine, bytesOf}
 
 -- line k
@@ -19,26 +19,19 @@ lineAt p k = readLine (drop (8 * k) p)
 abbrev pub putLine : ℕ → Line → List ℕ → List ℕ
 putLine k l p = placed 8 k (bytesOf l) p
 
--- n lines in the cleaned form: each as the line that it is read as
-unfoldable pub cleanedLines : ℕ → List ℕ → List ℕ
-cleanedLines zero p = []
-cleanedLines (suc n) p = bytesOf (readLine p) ++ cleanedLines n (drop 8 p)
-
--- 01: "Power-on and command 007 load the saved copy in that cleaned form; 008 saves the program area likewise cleaned"
-abbrev pub cleaned : List ℕ → List ℕ
-cleaned p = cleanedLines 200 p
-
 abbrev pub isNextOf : ℕ → Line → Bool
 isNextOf c (State outputs time) = false
 isNextOf c (For counter count) = false
 isNextOf c (Next counter) = eqb c counter
+isNextOf c Bad = false
 
 -- the first Next of counter c among n lines, the first of which is number k; k + n where there is none
 unfoldable pub firstNext : ℕ → ℕ → ℕ → List ℕ → ℕ
 firstNext c zero k p = k
 firstNext c (suc n) k p = elim (isNextOf c (readLine p)) [ true ↦ k | false ↦ firstNext c n (k + 1) (drop 8 p) ]
 
--- The search for a Next: the first Next of counter c on a line later than k; 200 where there is none.
+-- The search for a Next: the first Next of counter c on a line later than k; 200 where there is none. 02, item 4: "The search for a Next
+-- passes over" a Bad line, as over any other that is no Next of counter c.
 unfoldable pub nextAfter : List ℕ → ℕ → ℕ → ℕ
 nextAfter p c k = firstNext c (199 - k) (k + 1) (drop (8 * (k + 1)) p)
 

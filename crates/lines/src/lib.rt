@@ -6,27 +6,19 @@ ghost use Prim.Native.Nat.{_+_, _*_, _≤_, _<_};
 ghost use lib.ListN.{length};
 ghost use lib.Dec.{eqb, leb};
 ghost use Rattle.formats.specs.Checks.{if_then_else_};
-ghost use Rattle.lines.specs.declared.Line.the-variants.{State, For, Next};
-ghost use Rattle.lines.specs.Line.{endMark, noLine, isCounter, readLine, bytesOf};
-ghost use Rattle.lines.specs.Program.{lineAt, putLine, cleaned, isNextOf, nextAfter};
+ghost use Rattle.lines.specs.declared.Line.the-variants.{State, For, Next, Bad};
+ghost use Rattle.lines.specs.Line.{endMark, isCounter, isBad, readLine, bytesOf};
+ghost use Rattle.lines.specs.Program.{lineAt, putLine, isNextOf, nextAfter};
 
 pub enum Line {
     State { outputs: u32, time: u16 },
     For { counter: u8, count: u16 },
     Next { counter: u8 },
+    // eight bytes that are none of these
+    Bad,
 }
 
 // ---- eight bytes read as a line
-
-// What eight bytes that are no line count as, wherever they are read.
-fn no_line() -> Line
-    ensures line { λ r. ⌜ r ≡ noLine ⌝ }
-{
-    Line::State {
-        outputs: 0,
-        time: 0,
-    }
-}
 
 // A loop counter is 1 to 4.
 fn is_counter(c: u8) -> bool
@@ -40,50 +32,50 @@ fn is_counter(c: u8) -> bool
 
 // The line of eight bytes that begin with 53, by the byte after it and the numbers in the other six.
 fn state_line(second: u8, outputs: u32, time: u16) -> Line
-    ensures line { λ r. ⌜ r ≡ (if eqb second 0 && leb time 9999 then State outputs time else noLine) ⌝ }
+    ensures line { λ r. ⌜ r ≡ (if eqb second 0 && leb time 9999 then State outputs time else Bad) ⌝ }
 {
     if second != 0 {
-        return no_line();
+        return Line::Bad;
     }
     if 9999 < time {
-        return no_line();
+        return Line::Bad;
     }
     Line::State { outputs, time }
 }
 
 // The line of eight bytes that begin with 46, by the counter, the count and the number in the last four bytes.
 fn for_line(counter: u8, count: u16, rest: u32) -> Line
-    ensures line { λ r. ⌜ r ≡ (if isCounter counter && leb count 9999 && eqb rest 0 then For counter count else noLine) ⌝ }
+    ensures line { λ r. ⌜ r ≡ (if isCounter counter && leb count 9999 && eqb rest 0 then For counter count else Bad) ⌝ }
 {
     if !is_counter(counter) {
-        return no_line();
+        return Line::Bad;
     }
     if 9999 < count {
-        return no_line();
+        return Line::Bad;
     }
     if rest != 0 {
-        return no_line();
+        return Line::Bad;
     }
     Line::For { counter, count }
 }
 
 // The line of eight bytes that begin with 4E, by the counter and the numbers in the two bytes and the four after it.
 fn next_line(counter: u8, high: u16, low: u32) -> Line
-    ensures line { λ r. ⌜ r ≡ (if isCounter counter && eqb (high * 4294967296 + low) 0 then Next counter else noLine) ⌝ }
+    ensures line { λ r. ⌜ r ≡ (if isCounter counter && eqb (high * 4294967296 + low) 0 then Next counter else Bad) ⌝ }
 {
     if !is_counter(counter) {
-        return no_line();
+        return Line::Bad;
     }
     if high != 0 {
-        return no_line();
+        return Line::Bad;
     }
     if low != 0 {
-        return no_line();
+        return Line::Bad;
     }
     Line::Next { counter }
 }
 
-// The line that the first eight bytes say; what bytes that are no line count as where they say none.
+// The line that the first eight bytes say; Bad where they say none.
 pub fn read_line(b: &[u8]) -> Line
     requires { ⌜ 8 ≤ length (now b) ⌝ }
     ensures line { λ r. ⌜ r ≡ readLine (now (b .entry)) ⌝ }
@@ -111,7 +103,7 @@ pub fn read_line(b: &[u8]) -> Line
     if first == 0x4E {
         return next_line(second, high, low);
     }
-    no_line()
+    Line::Bad
 }
 
 // Line k of a program.
@@ -120,6 +112,16 @@ pub fn line_at(p: &[u8], k: usize) -> Line
     ensures line { λ r. ⌜ r ≡ lineAt (now (p .entry)) k ⌝ }
 {
     read_line(&p[8 * k..])
+}
+
+// A line that is none.
+pub fn is_bad(l: Line) -> bool
+    ensures test { λ r. ⌜ r ≡ isBad l ⌝ }
+{
+    if let Line::Bad = l {
+        return true;
+    }
+    false
 }
 
 // ---- a line written as eight bytes
@@ -134,7 +136,7 @@ pub fn end_mark() -> Line
     }
 }
 
-// The eight bytes of a line.
+// The eight bytes of a line; of a Bad one, which nobody writes, eight that are Bad.
 pub fn bytes_of(l: Line) -> [u8; 8]
     ensures bytes { λ r. ⌜ r ≡ bytesOf l ⌝ }
 {
@@ -149,6 +151,7 @@ pub fn bytes_of(l: Line) -> [u8; 8]
             [0x46, counter, n[0], n[1], 0, 0, 0, 0]
         }
         Line::Next { counter } => [0x4E, counter, 0, 0, 0, 0, 0, 0],
+        Line::Bad => [0; 8],
     }
 }
 
@@ -217,14 +220,10 @@ pub fn next_after(p: &[u8], c: u8, k: u8) -> u8
     200
 }
 
-// Each of the 200 lines as the line that it is read as: the cleaned form.
-pub fn clean(from: &[u8], to: &mut [u8])
+// The 200 lines are copied, byte by byte, whatever they are.
+pub fn copy_program(from: &[u8], to: &mut [u8])
     requires { ⌜ (length (now from) ≡ 1600) × (length (now to) ≡ 1600) ⌝ }
-    ensures program { λ _. ⌜ now (to .exit) ≡ cleaned (now (from .entry)) ⌝ }
+    ensures program { λ _. ⌜ now (to .exit) ≡ now (from .entry) ⌝ }
 {
-    let mut i: usize = 0;
-    while i < 200 {
-        put_line(to, i, line_at(from, i));
-        i += 1;
-    }
+    formats::copy(from, to, 1600);
 }

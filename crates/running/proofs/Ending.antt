@@ -9,7 +9,7 @@ use mathlib.Core.Bool.{true, false, not, true≢false}
 use mathlib.Core.List.{List}
 use Rattle.formats.proofs.Checks.{if-case}
 use Rattle.lines.specs.declared.Line.{Line}
-use Rattle.lines.specs.declared.Line.the-variants.{State, For, Next}
+use Rattle.lines.specs.declared.Line.the-variants.{State, For, Next, Bad}
 use Rattle.lines.specs.Program.{lineAt}
 use Rattle.running.specs.declared.Run.{Run}
 use Rattle.running.specs.declared.How.{How}
@@ -17,8 +17,8 @@ use Rattle.running.specs.declared.How.the-variants.{Holds, Ends, GoesOn}
 use Rattle.running.specs.declared.Step.{Step}
 use Rattle.running.specs.declared.Ran.{Ran}
 use Rattle.running.specs.Running.{allFree, stopped, holds, ends, onward, runLine, isForOrNext}
-use Rattle.running.specs.Running.{counted, stops, isHeld, follow, step, runDue, most, start, tick}
-use Rattle.running.proofs.Ways.{onward-ways, state-ways, for-ways, next-ways}
+use Rattle.running.specs.Running.{counted, stops, rests, isHeld, follow, step, runDue, most, start, tick}
+use Rattle.running.proofs.Ways.{onward-ways, state-ways, for-ways, next-ways, bad-way}
 use Rattle.running.proofs.Turns.{counted-one}
 
 -- ---- at most 400 lines
@@ -90,6 +90,7 @@ line-tell p (For c n) r on =
     (λ _ _ _. onward-tell _ on)
     (λ _ _ _. onward-tell _ on)
 line-tell p (Next c) r on = next-ways Tells p r c (λ _. ends-tell 8 r on (omega arith)) (λ _. goes-tell _ on refl) (λ _. onward-tell _ on)
+line-tell p Bad r on = bad-way Tells p r (ends-tell 14 r on (omega arith))
 
 step-tell : (p : List ℕ) (r : Run) → r .on ≡ true → Tells (step p r)
 unfolding step
@@ -128,3 +129,81 @@ tick-told p r on =
     if-case Told (isHeld r) (λ _. goesOn on refl) λ _.
     let t = onward-tell r on in
     follow-told (onward r .how) 0 (onward r .run) _ (t .running) (t .event) (λ s k. due-told p most 0 s k)
+
+-- ---- what an end says of the line at which it came
+
+-- 02, item 4: a Bad line "must not look like an end": 011 comes at a State with time 0 alone, whose outputs then stand, and 014 at a Bad line.
+pub record Ended (p : List ℕ) (event : ℕ) (r : Run) : Type 0 where
+  pub well : event ≡ 11 → lineAt p (r .line) ≡ State (r .outputs) 0
+  pub badly : event ≡ 14 → lineAt p (r .line) ≡ Bad
+
+-- neither of the two
+other-end : (p : List ℕ) (e : ℕ) (r : Run) → e ≢ 11 → e ≢ 14 → Ended p e r
+other-end p e r a b = record { well = λ z. absurd (a z); badly = λ z. absurd (b z) }
+
+-- of one line: if it ends the program, so it ended
+abbrev EndsSo : List ℕ → Step → Type 0
+EndsSo p s = (e : ℕ) → s .how ≡ Ends e → Ended p e (s .run)
+
+ends-so : (p : List ℕ) (e : ℕ) (r : Run) → Ended p e r → EndsSo p (ends e r)
+ends-so p e r h f is = let same : e ≡ f = cc in rw same at h
+
+onward-ends : (p : List ℕ) (r : Run) → EndsSo p (onward r)
+onward-ends p r =
+    onward-ways (EndsSo p) r (λ _ e is. absurd (not-ends′ is refl)) (λ _. ends-so p 9 r (other-end p 9 r (λ z. omega arith) (λ z. omega arith)))
+
+module _ (p : List ℕ) (r : Run) where
+  line-ends : (l : Line) → lineAt p (r .line) ≡ l → EndsSo p (runLine p l r)
+  line-ends (State o t) is =
+      state-ways (EndsSo p) p r o t (λ _ e h. absurd (not-ends h refl))
+      (λ none. ends-so p 11 _ (record { well = λ _. rw none at is; badly = λ z. absurd (omega arith) }))
+  line-ends (For c n) is =
+      for-ways (EndsSo p) p r c n
+      (λ _. ends-so p 6 r (other-end p 6 r (λ z. omega arith) (λ z. omega arith)))
+      (λ _ _. ends-so p 7 r (other-end p 7 r (λ z. omega arith) (λ z. omega arith)))
+      (λ _ _ _. onward-ends p _)
+      (λ _ _ _. onward-ends p _)
+  line-ends (Next c) is =
+      next-ways (EndsSo p) p r c (λ _. ends-so p 8 r (other-end p 8 r (λ z. omega arith) (λ z. omega arith))) (λ _ e h. absurd (not-ends′ h refl))
+      (λ _. onward-ends p _)
+  line-ends Bad is = bad-way (EndsSo p) p r (ends-so p 14 r (record { well = λ z. absurd (omega arith); badly = λ _. is }))
+
+  step-ends : EndsSo p (step p r)
+  unfolding step
+  step-ends = line-ends (lineAt p (r .line)) refl
+
+-- a call
+abbrev pub EndsWell : List ℕ → Ran → Type 0
+EndsWell p x = Ended p (x .event) (x .run)
+
+no-end : (p : List ℕ) (n : ℕ) (r : Run) → EndsWell p (rests n r)
+no-end p n r = other-end p 0 r (λ z. omega arith) (λ z. omega arith)
+
+stopped-ends : (p : List ℕ) (e n : ℕ) (r : Run) → Ended p e r → EndsWell p (stops e n r)
+unfolding stopped
+stopped-ends p e n r h = record { well = h .well; badly = h .badly }
+
+follow-ends : (p : List ℕ) (h : How) (n : ℕ) (r : Run) (go : Run → Ran) → ((e : ℕ) → h ≡ Ends e → Ended p e r) → ((s : Run) → EndsWell p (go s))
+    → EndsWell p (follow h n r go)
+follow-ends p Holds n r go ends k = no-end p n r
+follow-ends p (Ends e) n r go ends k = stopped-ends p e n r (ends e refl)
+follow-ends p GoesOn n r go ends k = k r
+
+due-ends-so : (p : List ℕ) (left n : ℕ) (r : Run) → EndsWell p (runDue p left n r)
+unfolding runDue
+due-ends-so p zero n r =
+    if-case (EndsWell p) (isForOrNext (lineAt p (r .line))) (λ _. stopped-ends p 13 n r (other-end p 13 r (λ z. omega arith) (λ z. omega arith)))
+    (λ _. follow-ends p (step p r .how) n (step p r .run) _ (step-ends p r) (λ s. no-end p n s))
+due-ends-so p (suc left) n r = follow-ends p (step p r .how) _ (step p r .run) _ (step-ends p r) (λ s. due-ends-so p left _ s)
+
+-- A start and a tick that end with 011 end at an end mark, and with 014 at a Bad line.
+pub start-ends : (p : List ℕ) (k o : ℕ) → EndsWell p (start p k o)
+unfolding start
+start-ends p k o = due-ends-so p most 0 _
+
+pub tick-ends-so : (p : List ℕ) (r : Run) → EndsWell p (tick p r)
+unfolding tick
+tick-ends-so p r =
+    if-case (EndsWell p) (not (r .on)) (λ _. no-end p 0 r) λ _.
+    if-case (EndsWell p) (isHeld r) (λ _. no-end p 0 _) λ _.
+    follow-ends p (onward r .how) 0 (onward r .run) _ (onward-ends p r) (λ s. due-ends-so p most 0 s)

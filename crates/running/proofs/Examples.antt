@@ -1,4 +1,4 @@
--- Programs small enough to follow by hand, run by the rules alone: each rule of 01, 'Running', and of 02, item 2, shows in one of them.
+-- Programs small enough to follow by hand, run by the rules alone: each rule of 01, 'Running', and of 02, items 2 and 4, shows in one of them.
 -- Assumes nothing.
 use mathlib.Core.Path.{_≡_, refl}
 use Prim.Native.Nat.{ℕ, suc}
@@ -8,7 +8,7 @@ use lib.ListN.{replicate}
 use Rattle.formats.specs.Checks.{if_then_else_, same}
 use Rattle.formats.specs.Digits.{digits, numberAfter}
 use Rattle.lines.specs.declared.Line.{Line}
-use Rattle.lines.specs.declared.Line.the-variants.{State, For, Next}
+use Rattle.lines.specs.declared.Line.the-variants.{State, For, Next, Bad}
 use Rattle.lines.specs.Line.{readLine, bytesOf}
 use Rattle.lines.specs.Program.{lineAt, firstNext, nextAfter}
 use Rattle.running.specs.declared.Ran.{Ran}
@@ -33,7 +33,7 @@ failing n [] = []
 failing n (e ∷ es) =
     if agrees (e .program) (start (e .program) (e .from) 0) (e .rows) then failing (suc n) es else n ∷ failing (suc n) es
 
--- lines from 000 on; what follows them counts as end marks
+-- lines from 000 on; what follows them is Bad
 abbrev these : List Line → List ℕ
 these [] = []
 these (l ∷ ls) = bytesOf l ++ these ls
@@ -72,13 +72,13 @@ examples =
     -- 7: on past line 199: 009, and the line stays
     ∷ (replicate 1592 0 ++ bytesOf (State 5 1)) startedAt 199 gives ((1 ∷ 5 ∷ 199 ∷ 0 ∷ 0 ∷ 0 ∷ []) ∷ (0 ∷ 5 ∷ 199 ∷ 0 ∷ 9 ∷ 0 ∷ []) ∷ [])
     -- 8: count 0000 runs its body not at all; the For is the one line counted
-    ∷ these (For 1 0 ∷ State 3 1 ∷ Next 1 ∷ State 4 2 ∷ [])
+    ∷ these (For 1 0 ∷ State 3 1 ∷ Next 1 ∷ State 4 2 ∷ State 0 0 ∷ [])
     startedAt 0
     gives ((1 ∷ 4 ∷ 3 ∷ 0 ∷ 0 ∷ 1 ∷ []) ∷ (1 ∷ 4 ∷ 3 ∷ 0 ∷ 0 ∷ 0 ∷ []) ∷ (0 ∷ 0 ∷ 4 ∷ 0 ∷ 11 ∷ 0 ∷ []) ∷ [])
     -- 9: a counter that is free again can be used again
     ∷ these (For 1 1 ∷ Next 1 ∷ For 1 1 ∷ Next 1 ∷ State 2 9 ∷ []) startedAt 0 gives ((1 ∷ 2 ∷ 4 ∷ 0 ∷ 0 ∷ 4 ∷ []) ∷ [])
     -- 10: a loop of none in a loop, passed on each round
-    ∷ these (For 1 2 ∷ For 2 0 ∷ State 3 1 ∷ Next 2 ∷ State 4 1 ∷ Next 1 ∷ [])
+    ∷ these (For 1 2 ∷ For 2 0 ∷ State 3 1 ∷ Next 2 ∷ State 4 1 ∷ Next 1 ∷ State 0 0 ∷ [])
     startedAt 0
     gives ((1 ∷ 4 ∷ 4 ∷ 2 ∷ 0 ∷ 2 ∷ []) ∷ (1 ∷ 4 ∷ 4 ∷ 1 ∷ 0 ∷ 2 ∷ []) ∷ (0 ∷ 0 ∷ 6 ∷ 0 ∷ 11 ∷ 1 ∷ []) ∷ [])
     -- 11 and 12: around a loop of its own counter, whose Next is the first later one; across a loop of another, whose Next stands behind
@@ -103,6 +103,19 @@ examples =
     ∷ these (For 1 134 ∷ For 2 0 ∷ Next 2 ∷ For 3 0 ∷ Next 3 ∷ Next 1 ∷ State 7 0 ∷ [])
     startedAt 0
     gives ((0 ∷ 0 ∷ 1 ∷ 0 ∷ 13 ∷ 400 ∷ []) ∷ [])
+    -- 20 and 21: a Bad line first, and on line 199: 014 there, the outputs stay, no line is counted
+    ∷ these (Bad ∷ State 0 0 ∷ []) startedAt 0 gives ((0 ∷ 0 ∷ 0 ∷ 0 ∷ 14 ∷ 0 ∷ []) ∷ (0 ∷ 0 ∷ 0 ∷ 0 ∷ 0 ∷ 0 ∷ []) ∷ [])
+    ∷ (replicate 1584 0 ++ bytesOf (State 5 1)) startedAt 198 gives ((1 ∷ 5 ∷ 198 ∷ 0 ∷ 0 ∷ 0 ∷ []) ∷ (0 ∷ 5 ∷ 199 ∷ 0 ∷ 14 ∷ 0 ∷ []) ∷ [])
+    -- 22 and 23: in a loop, whose counter is freed; and after exactly 400 lines, where it is no 401st
+    ∷ these (For 1 3 ∷ State 5 1 ∷ Bad ∷ Next 1 ∷ State 0 0 ∷ [])
+    startedAt 0
+    gives ((1 ∷ 5 ∷ 1 ∷ 3 ∷ 0 ∷ 1 ∷ []) ∷ (0 ∷ 5 ∷ 2 ∷ 0 ∷ 14 ∷ 0 ∷ []) ∷ [])
+    ∷ these (For 1 399 ∷ Next 1 ∷ Bad ∷ []) startedAt 0 gives ((0 ∷ 0 ∷ 2 ∷ 0 ∷ 14 ∷ 400 ∷ []) ∷ [])
+    -- 24 and 25: the search for a Next passes over it, to take the counter and to pass on; a damaged Next is none
+    ∷ these (For 1 1 ∷ State 6 1 ∷ Next 1 ∷ For 1 0 ∷ Bad ∷ Next 1 ∷ State 7 0 ∷ [])
+    startedAt 0
+    gives ((1 ∷ 6 ∷ 1 ∷ 1 ∷ 0 ∷ 1 ∷ []) ∷ (0 ∷ 7 ∷ 6 ∷ 0 ∷ 11 ∷ 2 ∷ []) ∷ [])
+    ∷ these (For 1 2 ∷ State 6 1 ∷ Bad ∷ State 7 0 ∷ []) startedAt 0 gives ((0 ∷ 0 ∷ 0 ∷ 0 ∷ 7 ∷ 1 ∷ []) ∷ [])
     ∷ []
 
 running-examples : failing 1 examples ≡ []

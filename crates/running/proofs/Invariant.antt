@@ -9,7 +9,7 @@ use lib.ListN.{getD, set}
 use borrow.Author.Tests.{not-false}
 use Rattle.formats.proofs.Checks.{if-case}
 use Rattle.lines.specs.declared.Line.{Line}
-use Rattle.lines.specs.declared.Line.the-variants.{State, For, Next}
+use Rattle.lines.specs.declared.Line.the-variants.{State, For, Next, Bad}
 use Rattle.lines.specs.Program.{lineAt}
 use Rattle.lines.proofs.Lines.{Ranged}
 use Rattle.lines.proofs.Places.{line-ranged}
@@ -23,7 +23,7 @@ use Rattle.running.specs.declared.Ran.{Ran}
 use Rattle.running.specs.Running.{begun, free, allFree, counter, atLine, withOutputs, waiting, withCounter, stopped, ends, goesTo}
 use Rattle.running.specs.Running.{onward, runLine, isForOrNext, isHeld, follow, step, runDue, most, start, tick}
 use Rattle.running.specs.Invariant.{RunInvariant}
-use Rattle.running.proofs.Ways.{onward-ways, state-ways, for-ways, next-ways}
+use Rattle.running.proofs.Ways.{onward-ways, state-ways, for-ways, next-ways, bad-way}
 
 -- ---- counters
 
@@ -127,6 +127,7 @@ line-going p (Next c) r q g =
     (λ _. ends-going 8 r g)
     (λ _. goes-going _ _ (omega arith) (counter-going c _ r l (omega arith) g))
     (λ _. onward-going _ (counter-going c free r (omega arith) (omega arith) g))
+line-going p Bad r q g = bad-way GoingStep p r (ends-going 14 r g)
 
 pub step-going : (p : List ℕ) (r : Run) → Going r → GoingStep (step p r)
 unfolding step

@@ -5,7 +5,7 @@ use mathlib.Core.Bool.{not}
 use mathlib.Core.List.{List}
 use Rattle.formats.proofs.Checks.{if-case}
 use Rattle.lines.specs.declared.Line.{Line}
-use Rattle.lines.specs.declared.Line.the-variants.{State, For, Next}
+use Rattle.lines.specs.declared.Line.the-variants.{State, For, Next, Bad}
 use Rattle.lines.specs.Program.{lineAt}
 use Rattle.lines.proofs.Lines.{Sets}
 use Rattle.running.specs.declared.Run.{Run}
@@ -14,7 +14,7 @@ use Rattle.running.specs.declared.How.the-variants.{Holds, Ends, GoesOn}
 use Rattle.running.specs.declared.Step.{Step}
 use Rattle.running.specs.declared.Ran.{Ran}
 use Rattle.running.specs.Running.{begun, stopped, onward, runLine, isForOrNext, isHeld, follow, step, runDue, most, start, tick}
-use Rattle.running.proofs.Ways.{onward-ways, state-ways, for-ways, next-ways}
+use Rattle.running.proofs.Ways.{onward-ways, state-ways, for-ways, next-ways, bad-way}
 
 -- P is what holds of the outputs
 module _ (P : ℕ → Type 0) where
@@ -31,6 +31,7 @@ module _ (P : ℕ → Type 0) where
   line-outputs p (State o t) r s h = state-ways OfStep p r o t (λ _. s) (λ _. s)
   line-outputs p (For c n) r s h = for-ways OfStep p r c n (λ _. h) (λ _ _. h) (λ _ _ _. onward-outputs _ h) (λ _ _ _. onward-outputs _ h)
   line-outputs p (Next c) r s h = next-ways OfStep p r c (λ _. h) (λ _. h) (λ _. onward-outputs _ h)
+  line-outputs p Bad r s h = bad-way OfStep p r h
 
   follow-outputs : (h : How) (n : ℕ) (r : Run) (go : Run → Ran) → P (r .outputs) → ((s : Run) → P (s .outputs) → OfRan (go s)) → OfRan (follow h n r go)
   unfolding stopped

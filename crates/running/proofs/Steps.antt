@@ -1,4 +1,4 @@
--- Laws of the steps, line by line: how long a State line is held, and to what each For and each Next leads, case by case.
+-- Laws of the steps, line by line: how long a State line is held, and to what each For, each Next and a Bad line leads, case by case.
 -- Assumes nothing.
 use mathlib.Core.Path.{_≡_, ap, _∙_}
 use Prim.Native.Nat.{ℕ, zero, suc, _+_, _-_, _<_}
@@ -6,7 +6,7 @@ use native.Mathlib.Omega.{arith}
 use mathlib.Core.Bool.{true}
 use mathlib.Core.List.{List}
 use borrow.Author.Tests.{eq-eqb, ne-eqb, lt-ltb, le-ltb}
-use Rattle.lines.specs.declared.Line.the-variants.{State, For, Next}
+use Rattle.lines.specs.declared.Line.the-variants.{State, For, Next, Bad}
 use Rattle.lines.specs.Program.{lineAt, nextAfter, FirstFrom, NoneFrom}
 use Rattle.lines.proofs.Search.{first-next, none-next}
 use Rattle.running.specs.declared.Run.{Run}
@@ -57,6 +57,14 @@ pub end-mark : (p : List ℕ) (r : Run) (outputs : ℕ) → lineAt p (r .line) �
 unfolding runDue step runLine
 end-mark p r outputs line zero n = rw line
 end-mark p r outputs line (suc left) n = let none : n + 0 ≡ n = omega arith in rw (line, none)
+
+-- ---- 02, item 4: "Running a Bad line stops with event 014 at that line."
+
+-- It is not counted, and no number of lines run before it in the call makes the event another.
+pub bad-line : (p : List ℕ) (r : Run) → lineAt p (r .line) ≡ Bad → (left n : ℕ) → runDue p left n r ≡ stops 14 n r
+unfolding runDue step runLine
+bad-line p r line zero n = rw line
+bad-line p r line (suc left) n = let none : n + 0 ≡ n = omega arith in rw (line, none)
 
 -- ---- what is counted
 

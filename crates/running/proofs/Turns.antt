@@ -3,24 +3,21 @@
 use Prim.Native.Nat.{ℕ, suc, _+_, _-_, _≤_, _<_}
 use native.Mathlib.Omega.{arith}
 use mathlib.Core.Path.{_≡_, refl, sym, ap, _∙_}
-use mathlib.Core.Bool.{true}
-use mathlib.Core.List.{List, [], _∷_}
+use mathlib.Core.Bool.{true, false}
+use mathlib.Core.List.{List}
 use lib.Dec.{leb}
 use borrow.Author.Tests.{leb-true}
-use types.Run.{OneOf, miss}
-use denote.Enum.Declared.{tagOf}
 use Rattle.formats.proofs.Checks.{both-true}
 use Rattle.lines.specs.declared.Line.{Line}
-use Rattle.lines.specs.declared.Line.the-variants.{State, For, Next}
+use Rattle.lines.specs.declared.Line.the-variants.{State, For, Next, Bad}
 use Rattle.lines.specs.Line.{isCounter}
 use Rattle.lines.specs.Program.{lineAt}
-use Rattle.lines.proofs.Line as L
 use Rattle.lines.proofs.Places.{line-ranged}
 use Rattle.running.specs.declared.Run.{Run}
 use Rattle.running.specs.declared.How.the-variants.{Holds, Ends, GoesOn}
 use Rattle.running.specs.declared.Step.{Step}
 use Rattle.running.specs.Running.{onward, tick, runLine, isForOrNext, counted, stops, rests, follow, step, runDue}
-use Rattle.running.proofs.Ways.{state-ways}
+use Rattle.running.proofs.Ways.{state-ways, bad-way}
 use Rattle.running.proofs.Invariant.{Going, onward-going, step-going}
 use Rattle.running.proofs.Waiting.{due-at}
 use Rattle.running.proofs.Steps.{loop-over}
@@ -43,11 +40,13 @@ goes-counted : (p : List ℕ) (l : Line) (r : Run) → runLine p l r .how ≡ Go
 goes-counted p (State o t) r = state-ways (λ (s : Step). s .how ≡ GoesOn → _≡_ {A = ℕ} 0 1) p r o t (λ _ h. cc) (λ _ h. cc)
 goes-counted p (For c n) r = λ h. refl
 goes-counted p (Next c) r = λ h. refl
+goes-counted p Bad r = bad-way (λ (s : Step). s .how ≡ GoesOn → _≡_ {A = ℕ} 0 1) p r (λ h. cc)
 
 pub counted-one : (l : Line) → counted l ≤ 1
 counted-one (State o t) = omega arith
 counted-one (For c n) = omega arith
 counted-one (Next c) = omega arith
+counted-one Bad = omega arith
 
 -- line l is due after n counted ones, and leads to s; q is 1 if it counts, and 0 if not
 module _ (p : List ℕ) (r : Run) (n : ℕ) (l : Line) (q : ℕ) (s : Step)
@@ -75,21 +74,15 @@ module _ (p : List ℕ) (r : Run) (n : ℕ) (l : Line) (q : ℕ) (s : Step)
 pub all-counted : (p : List ℕ) (r : Run) (n : ℕ) → 400 ≤ n → runDue p 0 n r ≡ runDue p (400 - n) n r
 all-counted p r n le = let z : 400 - n ≡ 0 = omega arith in rw z
 
--- a line that is no State is counted
-other-counted : (l : Line) → OneOf (1 ∷ 2 ∷ []) (tagOf L.the-type l) → isForOrNext l ≡ true
-other-counted (State o t) h = absurd (miss (1 ∷ 2 ∷ []) 0 tt h)
-other-counted (For c m) h = refl
-other-counted (Next c) h = refl
-
 -- the line that is due when no more may be counted
 module _ (p : List ℕ) (r : Run) (n : ℕ) (l : Line) (due : l ≡ lineAt p (r .line)) where
-  pub last-stops : OneOf (1 ∷ 2 ∷ []) (tagOf L.the-type l) → stops 13 n r ≡ runDue p 0 n r
-  last-stops h = sym (loop-over p r (ap isForOrNext (sym due) ∙ other-counted l h) n)
+  pub last-stops : isForOrNext l ≡ true → stops 13 n r ≡ runDue p 0 n r
+  last-stops loop = sym (loop-over p r (ap isForOrNext (sym due) ∙ loop) n)
 
-  module _ {o t : ℕ} (state : l ≡ State o t) (s : Step) (is : s ≡ runLine [] (State o t) r) where
+  module _ (other : isForOrNext l ≡ false) (s : Step) (is : s ≡ step p r) where
     last : runDue p 0 n r ≡ follow (s .how) n (s .run) (λ x. rests n x)
-    unfolding runDue step runLine
-    last = let e = sym due ∙ state in rw (e, is)
+    unfolding runDue
+    last = rw (ap isForOrNext (sym due) ∙ other, is)
 
     pub last-holds : s .how ≡ Holds → rests n (s .run) ≡ runDue p 0 n r
     last-holds w = sym (last ∙ simp w)

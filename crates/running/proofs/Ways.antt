@@ -11,7 +11,7 @@ use mathlib.Core.List.{List}
 use lib.Dec.{eqb, ltb}
 use borrow.Author.Tests.{eqb-true, eqb-false, ltb-true, ltb-false}
 use Rattle.formats.proofs.Checks.{if-case}
-use Rattle.lines.specs.declared.Line.the-variants.{State, For, Next}
+use Rattle.lines.specs.declared.Line.the-variants.{State, For, Next, Bad}
 use Rattle.lines.specs.Program.{nextAfter}
 use Rattle.running.specs.declared.Counter.{Counter}
 use Rattle.running.specs.declared.Run.{Run}
@@ -74,3 +74,8 @@ module _ (P : Step → Type 0) (p : List ℕ) (r : Run) where
       if-case P (ltb 0 (held c .count - 1))
       (λ e. back (omega (arith, ltb-true 0 (held c .count - 1) e)))
       (λ e. last (omega (arith, ltb-false 0 (held c .count - 1) e)))
+
+  -- 02, item 4: "Running a Bad line stops with event 014 at that line."
+  pub bad-way : P (ends 14 r) → P (runLine p Bad r)
+  unfolding runLine
+  bad-way bad = bad

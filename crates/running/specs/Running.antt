@@ -7,7 +7,7 @@ use lib.ListN.{getD, set, replicate}
 use lib.Dec.{ltb, eqb}
 use Rattle.formats.specs.Checks.{if_then_else_}
 use Rattle.lines.specs.declared.Line.{Line}
-use Rattle.lines.specs.declared.Line.the-variants.{State, For, Next}
+use Rattle.lines.specs.declared.Line.the-variants.{State, For, Next, Bad}
 use Rattle.lines.specs.Program.{lineAt, nextAfter}
 use Rattle.running.specs.declared.Counter.{Counter}
 use Rattle.running.specs.declared.Run.{Run}
@@ -99,14 +99,17 @@ runLine p (Next c) r =
     if isFree r c then ends 8 r
     else if ltb 0 left then goesTo (loop + 1) (withCounter c (record { count = left; line = loop }) r)
     else onward (withCounter c free r)
+-- 02, item 4: "Running a Bad line stops with event 014 at that line."
+runLine p Bad r = ends 14 r
 
 -- ---- the lines that fall due in one call
 
--- the lines that a call counts
+-- the lines that a call counts; a Bad line is neither
 abbrev pub isForOrNext : Line → Bool
 isForOrNext (State outputs time) = false
 isForOrNext (For c count) = true
 isForOrNext (Next c) = true
+isForOrNext Bad = false
 
 abbrev pub counted : Line → ℕ
 counted l = if isForOrNext l then 1 else 0
@@ -131,7 +134,7 @@ step p r = runLine p (lineAt p (r .line)) r
 
 -- 01: "One call runs at most 400 For and Next lines. Were a 401st due, the program stops there with event 013 (*house*). A For or
 -- Next that ends in 006, 007 or 008 counts as run; the one stopped by 013 does not".
--- Here `left` more may be run, and n were. (After a State line, the last line of a call, none falls due.)
+-- Here `left` more may be run, and n were. (After a State line or a Bad one, the last line of a call, none falls due.)
 unfoldable pub runDue : List ℕ → ℕ → ℕ → Run → Ran
 runDue p zero n r =
     if isForOrNext (lineAt p (r .line)) then stops 13 n r

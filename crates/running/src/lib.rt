@@ -71,10 +71,11 @@ fn is_for_or_next(line: Line) -> bool
             count: _,
         } => true,
         Line::Next { counter: _ } => true,
+        Line::Bad => false,
     }
 }
 
-// 1 for a line that a call counts, 0 for a State line.
+// 1 for a line that a call counts, 0 for any other.
 fn counted(line: Line) -> u16
     ensures number { λ r. ⌜ r ≡ counted line ⌝ }
 {
@@ -258,7 +259,7 @@ impl Run {
         self.onward()
     }
 
-    // The line that is due, which was read already.
+    // The line that is due, which was read already; a Bad one ends the program with event 014.
     fn run_line(self, p: &[u8], line: Line) -> Step
         requires { ⌜ (length (now p) ≡ 1600) × (RunInvariant self) × (line ≡ lineAt (now p) (self .line)) ⌝ }
         ensures step { λ r. ⌜ r ≡ step (now (p .entry)) self ⌝ }
@@ -267,26 +268,30 @@ impl Run {
             Line::State { outputs, time } => self.run_state(outputs, time),
             Line::For { counter, count } => self.run_for(p, counter, count),
             Line::Next { counter } => self.run_next(counter),
+            Line::Bad => Step {
+                run: self,
+                how: How::Ends(14),
+            },
         }
     }
 
     // ---- the lines of one call
 
-    // What is due when n lines were run and no more may be: a State line is run; for any other the program stops with event 013.
+    // What is due when n lines were run and no more may be: for a For or a Next the program stops with event 013; any other line is run.
     fn last_due(self, p: &[u8], n: u16) -> Ran
         requires { ⌜ (length (now p) ≡ 1600) × (RunInvariant self) ⌝ }
         ensures ran { λ r. ⌜ r ≡ runDue (now (p .entry)) 0 n self ⌝ }
     {
         let k = self.line;
         let line = lines::line_at(p, k as usize);
-        let Line::State { outputs, time } = line else {
+        if is_for_or_next(line) {
             return Ran {
                 run: self.stopped(),
                 event: 13,
                 lines: n,
             };
-        };
-        let s = self.run_state(outputs, time);
+        }
+        let s = self.run_line(p, line);
         let run = s.run;
         let how = s.how;
         match how {

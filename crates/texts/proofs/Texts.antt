@@ -16,11 +16,11 @@ use Rattle.formats.proofs.Checks.{if-case, both-true, ok-bind, ok-guard, Err, e
 use Rattle.formats.proofs.Characters.{length-shown, shown-back, read-shows, read-fits, number-err}
 use Rattle.formats.proofs.Parts.{length-part}
 use Rattle.lines.specs.declared.Line.{Line}
-use Rattle.lines.specs.declared.Line.the-variants.{State, For, Next}
+use Rattle.lines.specs.declared.Line.the-variants.{State, For, Next, Bad}
 use Rattle.formats.specs.Bytes.{part}
-use Rattle.lines.specs.Line.{isCounter}
+use Rattle.lines.specs.Line.{isCounter, isBad}
 use Rattle.texts.specs.Text.{lineText, lineLength, counterIn, stateIn, forIn, nextIn, lineIn}
-use Rattle.lines.proofs.Lines.{Fits}
+use Rattle.lines.proofs.Lines.{Fits, fits-good}
 
 -- ---- parts of the characters
 
@@ -125,6 +125,14 @@ accepted-shows cs =
     (λ f. let c = eqb-true (getD cs 0 0) 70 f in for-sent cs some c (rw c at len)) λ f.
     let c = is-next cs some e f (ltb-true 0 _ known) in next-sent cs some c (rw c at len)
 
+-- So no line that the wire accepts is Bad.
+pub never-bad : (cs : List ℕ) → Ok (λ l. isBad l ≡ false) (lineIn cs)
+never-bad cs = go (lineIn cs) (accepted-shows cs)
+  where
+    go : (r : Res Line) → Ok (Sent cs) r → Ok (λ l. isBad l ≡ false) r
+    go (refused e) s = tt
+    go (passed l) s = fits-good l (s .fits)
+
 -- ---- what is shown is read back
 
 whole : (base n v : ℕ) → take n (shown base n v) ≡ shown base n v
@@ -169,6 +177,7 @@ text-accepted (For c n) f =
     let len : length (shown 10 1 c ++ shown 10 4 n) ≡ 5 = simp (length-append, length-shown) in
     rw (len, first-of-two 10 10 1 4 c n, counter-back c (f .0), second-of-two 10 10 1 4 c n, decimal-back 4 n (omega (arith, f .1)))
 text-accepted (Next c) f = rw (length-shown 10 1 c, whole 10 1 c, counter-back c f)
+text-accepted Bad f = absurd f
 
 -- ---- the errors of characters that are no line
 

@@ -2,20 +2,22 @@
 -- 01, 'Variables': "Wire forms: `S 00 X4 X3 X2 X1 TTTT`, `F C XXXX`, `N C`."
 use Prim.Native.Nat.{ℕ}
 use Prim.Native.Char.{code}
-use mathlib.Core.List.{List, _++_}
+use mathlib.Core.List.{List, [], _++_}
 use lib.ListN.{length, getD}
 use lib.Dec.{ltb, eqb}
 use Rattle.formats.specs.Checks.{if_then_else_, Res, passed, _>>=_, _>>_, _orElse_, text}
 use Rattle.formats.specs.Digits.{shown, numberIn}
 use Rattle.lines.specs.declared.Line.{Line}
-use Rattle.lines.specs.declared.Line.the-variants.{State, For, Next}
+use Rattle.lines.specs.declared.Line.the-variants.{State, For, Next, Bad}
 use Rattle.formats.specs.Bytes.{part}
 use Rattle.lines.specs.Line.{isCounter}
 
+-- A Bad line has no characters: no reply shows one (02, item 4: it is answered with E024).
 unfoldable pub lineText : Line → List ℕ
 lineText (State outputs time) = text "S00" ++ (shown 16 8 outputs ++ shown 10 4 time)
 lineText (For counter count) = text "F" ++ (shown 10 1 counter ++ shown 10 4 count)
 lineText (Next counter) = text "N" ++ shown 10 1 counter
+lineText Bad = []
 
 -- 01, check 5: "the first data letter sets the length: S 15, F 6, N 2 characters"; 0 for any other first character
 abbrev pub lineLength : ℕ → ℕ

@@ -16,7 +16,7 @@ pub enum Parsed {
     Error(u8),
 }
 
-// The characters of a line.
+// The characters of a line; none of a Bad one.
 pub fn line_text(l: Line) -> Text
     ensures text { λ r. ⌜ (textOf r ≡ lineText l) × (r .len ≤ 15) ⌝ }
 {
@@ -32,6 +32,7 @@ pub fn line_text(l: Line) -> Text
             .shown(10, 1, counter as u32)
             .shown(10, 4, count as u32),
         Line::Next { counter } => Text::new().with(b'N').shown(10, 1, counter as u32),
+        Line::Bad => Text::new(),
     }
 }
 

@@ -1,7 +1,7 @@
 -- The 217 variables: what a read of each answers.
 -- 01, 'Variables', its table.
 use Prim.Native.Nat.{ℕ, _+_, _*_, _-_}
-use mathlib.Core.Bool.{Bool}
+use mathlib.Core.Bool.{Bool, _&&_}
 use mathlib.Core.List.{List}
 use lib.ListN.{getD, set}
 use lib.Dec.{leb, eqb}
@@ -9,7 +9,7 @@ use Rattle.formats.specs.Checks.{if_then_else_}
 use Rattle.formats.specs.Digits.{number, h, d, 2d}
 use Rattle.formats.specs.Bytes.{bytes}
 use Rattle.lines.specs.declared.Line.{Line}
-use Rattle.lines.specs.Line.{readLine}
+use Rattle.lines.specs.Line.{readLine, isBad}
 use Rattle.lines.specs.Program.{lineAt}
 use Rattle.texts.specs.Text.{lineText}
 use Rattle.running.specs.declared.Run.{Run}
@@ -19,6 +19,10 @@ use Rattle.variables.specs.declared.Panel.{Panel}
 -- the line at 000-199, in the program area, or at 200
 unfoldable pub lineOf : Panel → List ℕ → ℕ → Line
 lineOf panel program k = if eqb k 200 then readLine (panel .single) else lineAt program k
+
+-- address k is one of 000-200, and a Bad line stands there
+unfoldable pub isBadAt : Panel → List ℕ → ℕ → Bool
+isBadAt panel program k = leb k 200 && isBad (lineOf panel program k)
 
 abbrev pub bit : Bool → ℕ
 bit b = if b then 1 else 0
@@ -38,7 +42,7 @@ outputByte k word = getD (bytes 4 word) (k - 203) 0
 unfoldable pub withOutputByte : ℕ → ℕ → ℕ → ℕ
 withOutputByte k x word = number 256 (set (bytes 4 word) (k - 203) x)
 
--- what a read of address k answers
+-- what a read of address k shows; where a Bad line stands there it is not asked for (`controller/Deeds.asked`)
 unfoldable pub value : Panel → Run → Bool → List ℕ → ℕ → List ℕ
 value panel run paused program k =
     if leb k 200 then lineText (lineOf panel program k)

@@ -8,7 +8,7 @@ ghost use Rattle.formats.specs.NumbersAndTexts.{textOf};
 ghost use Rattle.lines.specs.Line.{readLine, bytesOf};
 ghost use Rattle.running.specs.Running.{counter};
 ghost use Rattle.variables.specs.Panel.{freshPanel, withSingle, withParameter, withSpecial, withEvent};
-ghost use Rattle.variables.specs.Variables.{lineOf, statusBits, outputByte, withOutputByte, value};
+ghost use Rattle.variables.specs.Variables.{lineOf, isBadAt, statusBits, outputByte, withOutputByte, value};
 use formats::Text;
 use lines::Line;
 use running::Run;
@@ -134,6 +134,17 @@ pub fn line_of(panel: Panel, program: &[u8], k: u8) -> Line
     lines::line_at(program, k as usize)
 }
 
+// Address k is one of 000-200, and a Bad line stands there.
+pub fn is_bad_at(panel: Panel, program: &[u8], k: u8) -> bool
+    requires { ⌜ length (now program) ≡ 1600 ⌝ }
+    ensures test { λ r. ⌜ r ≡ isBadAt panel (now (program .entry)) k ⌝ }
+{
+    if 200 < k {
+        return false;
+    }
+    lines::is_bad(line_of(panel, program, k))
+}
+
 // A byte in the format h, two hex digits.
 fn hex(v: u8) -> Text
     ensures text { λ r. ⌜ (textOf r ≡ h v) × (r .len ≤ 15) ⌝ }
@@ -158,7 +169,7 @@ fn count(run: Run, k: u8) -> Text
     Text::new().shown(10, 4, counter.count as u32)
 }
 
-// What a read of address k answers.
+// What a read of address k shows.
 pub fn value(panel: Panel, run: Run, paused: bool, program: &[u8], k: u8) -> Text
     requires { ⌜ (length (now program) ≡ 1600) × (k ≤ 216) ⌝ }
     ensures answer { λ r. ⌜ (textOf r ≡ value panel run paused (now (program .entry)) k) × (r .len ≤ 15) ⌝ }

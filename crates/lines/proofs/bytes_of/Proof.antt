@@ -48,6 +48,9 @@ array-read-t37 c = search needs
 enum-known-l-3 : tie.Need-enum-known-l-3
 enum-known-l-3 c = search needs
 
+enum-told : tie.Need-enum-told
+enum-told c = search needs
+
 returns : tie.Need-returns
 unfolding bytesOf digits
 returns c = simp (c .before .before .before .l .given .1, c .before .four-bytes .ensures, c .two-bytes .ensures)
@@ -59,6 +62,10 @@ returns-2 c = simp (c .before .before .l2 .given .1, c .two-bytes2 .ensures)
 returns-3 : tie.Need-returns-3
 unfolding bytesOf
 returns-3 c = simp (c .before .l3 .given .1)
+
+returns-4 : tie.Need-returns-4
+unfolding bytesOf
+returns-4 c = simp (c .enum-told .given .1)
 
 pub bytes-of-spec : {M : Type 1} → statement M
 bytes-of-spec =
@@ -78,6 +85,8 @@ bytes-of-spec =
     array-read-t34
     array-read-t37
     enum-known-l-3
+    enum-told
     returns
     returns-2
-    returns-3)
+    returns-3
+    returns-4)

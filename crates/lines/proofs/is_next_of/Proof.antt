@@ -1,7 +1,7 @@
 -- `lines::is_next_of` meets its contract: by the kind of line.
 -- Assumes nothing.
 use borrow.Author.Needs.{needs}
-use Rattle.lines.proofs.Search.{no-next}
+use Rattle.lines.proofs.OtherKinds.{no-next}
 use Rattle.lines.proofs.is_next_of.Statement.{statement}
 use Rattle.lines.proofs.is_next_of.Tie as tie
 

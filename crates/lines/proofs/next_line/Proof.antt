@@ -11,33 +11,24 @@ use Rattle.lines.proofs.next_line.Tie as tie
 is-counter-requires : tie.Need-is-counter-requires
 is-counter-requires c κs = search needs
 
-no-line-requires : tie.Need-no-line-requires
-no-line-requires c κs = search needs
-
 returns : tie.Need-returns
 returns c =
-    let is-counter = c .before .before .is-counter in
-    simp (c .no-line .ensures, sym (is-counter .ensures) ∙ not-true _ (c .before .if1 .taken))
-
-no-line-requires-2 : tie.Need-no-line-requires-2
-no-line-requires-2 c κs = search needs
+    let is-counter = c .before .is-counter in
+    simp (sym (is-counter .ensures) ∙ not-true _ (c .if1 .taken))
 
 returns-2 : tie.Need-returns-2
 returns-2 c =
-    let a = c .before .before .before .before .args in
-    let is = sym (c .before .before .before .is-counter .ensures) ∙ not-false _ (c .before .before .if1 .left) in
-    simp (c .no-line2 .ensures, is, ne-eqb (a .high * 4294967296 + a .low) 0 (λ e. c .before .if2 .taken (omega arith)))
-
-no-line-requires-3 : tie.Need-no-line-requires-3
-no-line-requires-3 c κs = search needs
+    let a = c .before .before .before .args in
+    let is = sym (c .before .before .is-counter .ensures) ∙ not-false _ (c .before .if1 .left) in
+    simp (is, ne-eqb (a .high * 4294967296 + a .low) 0 (λ e. c .if2 .taken (omega arith)))
 
 returns-3 : tie.Need-returns-3
 returns-3 c =
-    let a = c .before .before .before .before .before .args in
-    let is-counter = c .before .before .before .before .is-counter in
-    let if1 = c .before .before .before .if1 in
+    let a = c .before .before .before .before .args in
+    let is-counter = c .before .before .before .is-counter in
+    let if1 = c .before .before .if1 in
     let is = sym (is-counter .ensures) ∙ not-false _ (if1 .left) in
-    simp (c .no-line3 .ensures, is, ne-eqb (a .high * 4294967296 + a .low) 0 (λ e. c .before .if3 .taken (omega arith)))
+    simp (is, ne-eqb (a .high * 4294967296 + a .low) 0 (λ e. c .if3 .taken (omega arith)))
 
 returns-4 : tie.Need-returns-4
 returns-4 c =
@@ -50,10 +41,7 @@ next-line-spec =
     tie.close
     (tie.spec
     is-counter-requires
-    no-line-requires
     returns
-    no-line-requires-2
     returns-2
-    no-line-requires-3
     returns-3
     returns-4)

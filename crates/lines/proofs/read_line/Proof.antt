@@ -1,7 +1,7 @@
 -- `lines::read_line` meets its contract: by the first byte, with the laws of Fields.antt.
 -- Assumes nothing.
 use mathlib.Core.Path.{_∙_}
-use Rattle.lines.proofs.Fields.{state-bytes, for-bytes, next-bytes, no-line}
+use Rattle.lines.proofs.Fields.{state-bytes, for-bytes, next-bytes, none-bytes}
 use borrow.Author.Needs.{needs}
 use Rattle.lines.proofs.read_line.Statement.{statement}
 use Rattle.lines.proofs.read_line.Tie as tie
@@ -75,14 +75,11 @@ returns-3 c =
     let start = earlier .before .before .before .before .before in
     c .next-line .ensures ∙ next-bytes _ (start .pre) (c .before .if3 .taken) (two .ensures) (number-of-four2 .ensures)
 
-no-line-requires : tie.Need-no-line-requires
-no-line-requires c κs = search needs
-
 returns-4 : tie.Need-returns-4
 returns-4 c =
-    let if1 = c .before .before .before .before .before .if1 in
-    let if2 = c .before .before .if2 in
-    c .no-line .ensures ∙ no-line _ (if1 .left) (if2 .left) (c .before .if3 .left)
+    let if1 = c .before .before .before .before .if1 in
+    let if2 = c .before .if2 in
+    none-bytes _ (if1 .left) (if2 .left) (c .if3 .left)
 
 pub read-line-spec : {M : Type 1} → statement M
 read-line-spec =
@@ -106,5 +103,4 @@ read-line-spec =
     returns-2
     next-line-requires
     returns-3
-    no-line-requires
     returns-4)

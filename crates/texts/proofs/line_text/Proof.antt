@@ -66,6 +66,12 @@ cast-shown-4 c = search needs
 shown-requires-5 : tie.Need-shown-requires-5
 shown-requires-5 c κs = search needs
 
+enum-told : tie.Need-enum-told
+enum-told c = search needs
+
+new-requires-4 : tie.Need-new-requires-4
+new-requires-4 c κs = search needs
+
 returns : tie.Need-returns
 unfolding lineText text
 returns c = (
@@ -97,6 +103,10 @@ returns-3 c = (
   search needs,
 )
 
+returns-4 : tie.Need-returns-4
+unfolding lineText
+returns-4 c = (simp (c .before .enum-told .given .1, c .new4 .ensures .0), search needs)
+
 pub line-text-spec : {M : Type 1} → statement M
 line-text-spec =
     tie.close
@@ -121,6 +131,9 @@ line-text-spec =
     with-requires-5
     cast-shown-4
     shown-requires-5
+    enum-told
+    new-requires-4
     returns
     returns-2
-    returns-3)
+    returns-3
+    returns-4)

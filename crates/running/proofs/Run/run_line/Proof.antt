@@ -29,6 +29,9 @@ run-next-requires c κs =
     let pre = c .before .before .before .before .pre in
     (pre .1, next-counter _ _ (sym (pre .2) ∙ c .before .line3 .given .1))
 
+enum-told : tie.Need-enum-told
+enum-told c = search needs
+
 returns : tie.Need-returns
 unfolding step runLine
 returns c =
@@ -50,6 +53,10 @@ returns-3 c =
     let line3 = c .before .before .line3 in
     simp (c .run-next .ensures, sym (pre .2) ∙ line3 .given .1)
 
+returns-4 : tie.Need-returns-4
+unfolding step runLine
+returns-4 c = let pre = c .before .before .before .pre in simp (sym (pre .2) ∙ c .enum-told .given .1)
+
 pub run-line-spec : {M : Type 1} → statement M
 run-line-spec =
     tie.close
@@ -60,6 +67,8 @@ run-line-spec =
     run-for-requires
     enum-known-line-3
     run-next-requires
+    enum-told
     returns
     returns-2
-    returns-3)
+    returns-3
+    returns-4)
