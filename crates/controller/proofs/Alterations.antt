@@ -7,8 +7,6 @@ use mathlib.Core.List.{List, [], _∷_}
 use lib.Dec.{eqb, ltb}
 use Rattle.formats.specs.Checks.{if_then_else_, Res, refused, passed}
 use Rattle.formats.proofs.Checks.{if-case}
-use Rattle.lines.specs.declared.Line.{Line}
-use Rattle.lines.specs.declared.Line.the-variants.{State, For, Next, Bad}
 use Rattle.running.specs.declared.Run.{Run}
 use Rattle.log.specs.declared.Log.{Log}
 use Rattle.special.specs.declared.Special.{Special}
@@ -21,9 +19,9 @@ use Rattle.wire.specs.declared.Asked.the-variants.{Read, Write}
 use Rattle.wire.specs.Collecting.{mostChars, collect}
 use Rattle.special.specs.Special.{codeOf}
 use Rattle.controller.specs.declared.Controller.{Controller}
-use Rattle.controller.specs.Controller.{withRun, withEvent, withSpecial, withOut, Areas}
+use Rattle.controller.specs.Controller.{withEvent, withSpecial, withOut, Areas}
 use Rattle.controller.specs.Variables.{value}
-use Rattle.controller.specs.Deeds.{Deed, nothingRun, raise, moved, startAt, stop, load, save, execute, special, write, wroteTo, ended}
+use Rattle.controller.specs.Deeds.{Deed, nothingRun, raise, moved, startAt, stop, load, save, special, write, wroteTo, ended}
 use Rattle.controller.specs.Deeds.{writing, emptyCollection, asked, answer, ticked, pressed, emptyLog, powerUp}
 use Rattle.controller.specs.Deeds as Deeds
 use Rattle.controller.specs.Refusals.{Call, powerOn, byte, tick, press, emptying}
@@ -195,13 +193,6 @@ pub raise-is : (e : ℕ) (c : Controller) → raise e c ≡ withEvent (raise e c
 unfolding raise
 raise-is e c = if-case (λ (x : Controller). x ≡ withEvent (x .panel .event) (x .panel .unread) c) (eqb e 0) (λ _. refl) (λ _. refl)
 
--- a line executed alters the run alone
-pub execute-is : (l : Line) (c : Controller) → execute l c ≡ withRun (execute l c .run) c
-execute-is (State o t) c = refl
-execute-is (For n k) c = refl
-execute-is (Next n) c = refl
-execute-is Bad c = refl
-
 -- an accepted special command
 special-only : (s : Special) (k : ℕ) (c : Controller) (a : Areas)
     → Only (λ p. byCommand p (passed (Write k (WriteSpecial s)))) (nothingRun c a) (special s (withSpecial (codeOf s) (wroteTo k c)) a)
@@ -211,7 +202,7 @@ special-only Pause k c a = record { same = refl }
 special-only Start k c a = rw raise-is (record { same = refl })
 special-only Continue k c a = record { same = refl }
 special-only StartAt k c a = rw raise-is (record { same = refl })
-special-only Execute k c a = rw execute-is (record { same = refl })
+special-only Execute k c a = record { same = refl }
 special-only Load k c a = record { same = refl }
 special-only Save k c a = record { same = refl }
 

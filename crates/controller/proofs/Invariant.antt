@@ -10,8 +10,6 @@ use lib.Dec.{eqb}
 use borrow.Author.Tests.{leb-true}
 use Rattle.formats.specs.Checks.{Res, refused, passed, Ok}
 use Rattle.formats.proofs.Checks.{if-case}
-use Rattle.lines.specs.declared.Line.{Line}
-use Rattle.lines.specs.declared.Line.the-variants.{State, For, Next, Bad}
 use Rattle.lines.specs.Line.{endMark}
 use Rattle.lines.proofs.Lines.{length-bytes}
 use Rattle.running.specs.declared.Run.{Run}
@@ -36,9 +34,8 @@ use Rattle.wire.proofs.Collecting.{collect-kept, cleared-kept}
 use Rattle.wire.specs.Sound.{Permitted, SoundData, Sound}
 use Rattle.controller.specs.declared.Controller.{Controller}
 use Rattle.controller.specs.Controller.{withRun, withPaused, withTicks, withWire, withSpecial, withEvent, mode, Areas, fresh}
-use Rattle.controller.specs.Deeds.{Deed, raise, moved, startAt, stop, execute, special, read, write, readTo, wroteTo, writing}
+use Rattle.controller.specs.Deeds.{Deed, raise, moved, startAt, stop, special, read, write, readTo, wroteTo, writing}
 use Rattle.controller.specs.Deeds.{emptyCollection, asked, answer, ticked, pressed, emptyLog, powerUp}
-use Rattle.controller.specs.Variables.{lineOf}
 use Rattle.controller.specs.Deeds as Deeds
 use Rattle.controller.specs.Refusals.{Call, powerOn, byte, tick as tickCall, press, emptying, check}
 use Rattle.controller.specs.Calls.{does, startsFrom, differs, changeOf, logged, settled, call}
@@ -106,12 +103,6 @@ module _ (c : Controller) (a : Areas) (i : Invariant c) where
 with-paused : (b : Bool) (c : Controller) → (b ≡ true → c .run .on ≡ true) → Invariant c → Invariant (withPaused b c)
 with-paused b c p i = record { run = i .run; wire = i .wire; log = i .log; pausedRuns = p; single = i .single }
 
-executed : (l : Line) (c : Controller) → Invariant c → Invariant (execute l c)
-executed (State o t) c i = with-outputs o c i
-executed (For n k) c i = i
-executed (Next n) c i = i
-executed Bad c i = i
-
 special-keeps : (s : Special) (c : Controller) (a : Areas) → Permitted (mode c) (c .panel .parameter) s → Invariant c → Keeps (special s c a)
 unfolding special
 special-keeps Stop c a p i = record { kept = stopped-invariant c i }
@@ -121,7 +112,7 @@ special-keeps Continue c a p i = record { kept = with-paused false c (λ e. absu
 special-keeps StartAt c a p i =
     start-keeps c a i (c .panel .parameter) (omega (arith, leb-true (c .panel .parameter) 199 (p .reaches)))
     (start-at-stopped (c .run .on) (c .paused) (p .may))
-special-keeps Execute c a p i = record { kept = executed (lineOf c (a .program) (c .panel .parameter)) c i }
+special-keeps Execute c a p i = record { kept = with-outputs _ c i }
 special-keeps Load c a p i = record { kept = i }
 special-keeps Save c a p i = record { kept = i }
 

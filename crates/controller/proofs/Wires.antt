@@ -20,7 +20,7 @@ use Rattle.controller.specs.Controller.{Areas, withSpecial}
 use Rattle.controller.specs.Deeds.{Deed, moved, startAt, stop, special, write, writing, wroteTo, emptyCollection, answer}
 use Rattle.controller.specs.Refusals.{Call}
 use Rattle.controller.specs.Calls.{does}
-use Rattle.controller.proofs.Alterations.{collected, nextRead, nextWrite, alters, does-alters, answer-alters, raise-is, execute-is}
+use Rattle.controller.proofs.Alterations.{collected, nextRead, nextWrite, alters, does-alters, answer-alters, raise-is}
 
 -- the collection is empty
 pub record Empty (w : Wire) : Type 0 where
@@ -53,7 +53,7 @@ special-moves Pause k c a = refl
 special-moves Start k c a = rw raise-is
 special-moves Continue k c a = refl
 special-moves StartAt k c a = rw raise-is
-special-moves Execute k c a = rw execute-is
+special-moves Execute k c a = refl
 special-moves Load k c a = refl
 special-moves Save k c a = refl
 

@@ -7,8 +7,7 @@ use lib.Dec.{eqb}
 use Rattle.formats.specs.Checks.{if_then_else_, Res, refused, passed, _>>=_, _>>_, _orElse_, text}
 use Rattle.formats.specs.Digits.{errorText}
 use Rattle.lines.specs.declared.Line.{Line}
-use Rattle.lines.specs.declared.Line.the-variants.{State, For, Next, Bad}
-use Rattle.lines.specs.Line.{bytesOf}
+use Rattle.lines.specs.Line.{setBy, bytesOf}
 use Rattle.lines.specs.Program.{putLine}
 use Rattle.running.specs.declared.Ran.{Ran}
 use Rattle.running.specs.Running.{withOutputs, stopped, start, tick}
@@ -78,10 +77,7 @@ save a = withSaved (a .program) a
 -- "006 sets the outputs of a State line and ignores its time; For and Next do nothing." 02, item 4, of a Bad line: "Executing one by 006
 -- does nothing and answers OK."
 abbrev pub execute : Line → Controller → Controller
-execute (State outputs time) c = withRun (withOutputs outputs (c .run)) c
-execute (For counter count) c = c
-execute (Next counter) c = c
-execute Bad c = c
+execute l c = withRun (withOutputs (setBy l (c .run .outputs)) (c .run)) c
 
 unfoldable pub special : Special → Controller → Areas → Deed
 special Stop c a = nothingRun (stop c) a

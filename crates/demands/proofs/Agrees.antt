@@ -7,9 +7,8 @@ use mathlib.Core.List.{List}
 use lib.Dec.{eqb}
 use Rattle.formats.specs.Checks.{if_then_else_, Res, refused, passed}
 use Rattle.lines.specs.declared.Line.{Line}
-use Rattle.lines.specs.declared.Line.the-variants.{State, For, Next, Bad}
 use Rattle.log.specs.declared.Log.{Log}
-use Rattle.lines.specs.Line.{readLine, bytesOf}
+use Rattle.lines.specs.Line.{setBy, readLine, bytesOf}
 use Rattle.lines.specs.Program.{lineAt}
 use Rattle.lines.proofs.Lines.{Fits}
 use Rattle.running.specs.declared.Run.{Run}
@@ -185,10 +184,7 @@ module _ (t : Told) (c : Controller) (g : Agrees t c) where
   -- a line executed
   pub execute-agrees : (l l′ : Line) (k : Call) (s : Said) (a : Areas) → l ≡ l′ → Agrees (toldRun (executed k s a t l′) (t .paused) t) (execute l c)
   unfolding toldRun
-  execute-agrees l (State o time) k s a e = rw e (run-agrees t c g _ _ _ _ (ap (withOutputs o) (g .run)) (g .paused))
-  execute-agrees l (For n count) k s a e = rw e g
-  execute-agrees l (Next n) k s a e = rw e g
-  execute-agrees l Bad k s a e = rw e g
+  execute-agrees l l′ k s a e = rw e (run-agrees t c g _ _ _ _ (ap (λ (r : Run). withOutputs (setBy l′ (r .outputs)) r) (g .run)) (g .paused))
 
   -- the line that the parameter names
   pub named-line : (k : Call) (s : Said) (a : Areas) → lineOf c (a .program) (c .panel .parameter) ≡ lineNamed k s a t

@@ -10,8 +10,8 @@ use borrow.Author.Tests.{le-ltb}
 use Rattle.formats.specs.Checks.{_>>=_, text}
 use Rattle.formats.proofs.Characters.{length-shown}
 use Rattle.lines.specs.declared.Line.{Line}
-use Rattle.lines.specs.declared.Line.the-variants.{State, For, Next, Bad}
 use Rattle.texts.specs.Text.{lineText}
+use Rattle.texts.proofs.Texts.{text-length}
 use Rattle.variables.specs.declared.Panel.{Panel}
 use Rattle.variables.specs.Variables.{isBadAt}
 use Rattle.wire.specs.Collecting.{mostChars, capital, sent}
@@ -55,19 +55,12 @@ module _ (t : Told) (c : Controller) (g : Agrees t c) (command : List ℕ) (arri
   pub arrives-sent : c .wire .overlong ≡ false → sent (c .wire) ≡ command
   arrives-sent short = sent-whole (t .received) (c .wire) (g .wire .received) short ∙ arrived
 
--- an address takes at most three characters, a line at most fifteen
+-- an address takes at most three characters
 pub named-length : {next k : ℕ} {a : List ℕ} → Names next k a → length a ≤ 3
 unfolding text
 named-length {k} (byDigits e) = rw (e, length-shown 10 3 k) (omega arith)
 named-length (byI e n) = rw e (omega arith)
 named-length (byD e n) = rw e (omega arith)
-
-line-length : (l : Line) → length (lineText l) ≤ 15
-unfolding lineText text
-line-length (State o time) = simp (length-append, length-shown) (omega arith)
-line-length (For n count) = simp (length-append, length-shown) (omega arith)
-line-length (Next n) = simp length-shown (omega arith)
-line-length Bad = omega arith
 
 pub read-length : {next k : ℕ} {a : List ℕ} → Names next k a → length (text "CR" ++ a) ≤ mostChars
 unfolding text
@@ -78,4 +71,4 @@ unfolding text
 write-length {a} l n =
     let b = named-length n in
     let e = length-append a (lineText l) in
-    omega (arith, line-length l)
+    omega (arith, text-length l)

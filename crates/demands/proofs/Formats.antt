@@ -13,12 +13,10 @@ use Rattle.formats.specs.Checks.{passed, text, all}
 use Rattle.formats.specs.Digits.{isDigit, digits, shown, numberIn, h, d, errorText}
 use Rattle.formats.proofs.Checks.{if-case, both-true, and-false, passed-same}
 use Rattle.formats.proofs.Characters.{length-shown, shown-digits, shown-back}
-use Rattle.lines.specs.declared.Line.{Line}
-use Rattle.lines.specs.declared.Line.the-variants.{State, For, Next, Bad}
-use Rattle.lines.specs.Line.{isBad}
 use Rattle.lines.specs.Program.{lineAt}
 use Rattle.lines.proofs.Lines.{Ranged, read-ranged}
 use Rattle.texts.specs.Text.{lineText}
+use Rattle.texts.proofs.Texts.{no-error}
 use Rattle.running.specs.declared.Run.{Run}
 use Rattle.variables.specs.declared.Panel.{Panel}
 use Rattle.variables.specs.Variables.{lineOf, isBadAt, value}
@@ -96,16 +94,9 @@ first-digit : (cs : List ℕ) → length cs ≡ 4 → all (isDigit 10) cs ≡ tr
 first-digit [] l e = absurd (omega arith)
 first-digit (c ∷ cs) l e = digit-not-e c (both-true (isDigit 10 c) (all (isDigit 10) cs) e .0)
 
-line-no-error : (l : Line) → isBad l ≡ false → isError (ended (lineText l)) ≡ false
-unfolding lineText text
-line-no-error (State outputs time) good = and-false (eqb (length (ended (lineText (State outputs time)))) 5)
-line-no-error (For counter count) good = and-false (eqb (length (ended (lineText (For counter count)))) 5)
-line-no-error (Next counter) good = and-false (eqb (length (ended (lineText (Next counter)))) 5)
-line-no-error Bad good = absurd (true≢false good)
-
 -- A reply in the format of an address is no error's.
 pub format-no-error : (k : ℕ) (cs : List ℕ) → InFormat k cs → isError (ended cs) ≡ false
-format-no-error k cs (aLine le l good r e) = rw e (line-no-error l good)
+format-no-error k cs (aLine le l good r e) = rw (e, no-error l (13 ∷ []) good) (and-false (eqb (length (ended (lineText l))) 5))
 format-no-error k cs (inH lo hi e) = rw (ended-length cs 2 (eqb-true _ _ (both-true (eqb (length cs) 2) _ e .0)) (λ z. omega arith))
 format-no-error k cs (inD lo hi e) = rw (ended-length cs 3 (eqb-true _ _ (both-true (eqb (length cs) 3) _ e .0)) (λ z. omega arith))
 format-no-error k cs (in2D lo hi e) =

@@ -6,15 +6,10 @@ use native.Mathlib.Omega.{arith}
 use mathlib.Core.Bool.{true}
 use mathlib.Core.List.{List}
 use lib.ListN.{take, replicate}
-use lib.Dec.{leb, ltb}
-use borrow.Author.Tests.{lt-ltb, leb-true}
+use lib.Dec.{ltb}
 use Rattle.formats.specs.Bytes.{bytes, placed, areBytes}
-use Rattle.formats.proofs.Checks.{if-case, both-true, all-take, all-drop, all-append}
+use Rattle.formats.proofs.Checks.{if-case, all-take, all-drop, all-append}
 use Rattle.formats.proofs.Digits.{isBelow, digits-below}
-use Rattle.lines.specs.declared.Line.{Line}
-use Rattle.lines.specs.declared.Line.the-variants.{State, For, Next, Bad}
-use Rattle.lines.specs.Line.{isCounter, bytesOf}
-use Rattle.lines.proofs.Lines.{Ranged}
 use Rattle.log.specs.declared.Change.{Change}
 use Rattle.log.specs.declared.Log.{Log}
 use Rattle.log.specs.Record.{recordSize, changeRecord, gapRecord}
@@ -40,21 +35,6 @@ unfolding placed
 placed-bytes n k r bs e f =
     all-append (isBelow 256) (take (n * k) bs) _ (all-take (isBelow 256) (n * k) bs f)
     (all-append (isBelow 256) r _ e (all-drop (isBelow 256) (n * k + n) bs f))
-
--- ---- lines
-
--- a loop counter is a byte
-counter-byte : (c : ℕ) → isCounter c ≡ true → ltb c 256 ≡ true
-counter-byte c e = lt-ltb c 256 (omega (arith, leb-true c 4 (both-true (leb 1 c) (leb c 4) e .1)))
-
--- a line is stored in bytes
-pub line-bytes : (l : Line) → Ranged l → areBytes (bytesOf l) ≡ true
-unfolding bytesOf
-line-bytes (State o t) r = all-append (isBelow 256) (bytes 4 o) (bytes 2 t) (digits-bytes 4 o) (digits-bytes 2 t)
-line-bytes (For c n) r =
-    rw (counter-byte c (r .range .0)) (all-append (isBelow 256) (bytes 2 n) (replicate 4 0) (digits-bytes 2 n) refl)
-line-bytes (Next c) r = rw (counter-byte c (r .range)) refl
-line-bytes Bad r = refl
 
 -- ---- records
 

@@ -16,7 +16,7 @@ use Rattle.lines.specs.declared.Line.{Line}
 use Rattle.lines.specs.declared.Line.the-variants.{State}
 use Rattle.lines.specs.Line.{bytesOf}
 use Rattle.lines.specs.Program.{lineAt, putLine}
-use Rattle.lines.proofs.Lines.{length-bytes}
+use Rattle.lines.proofs.Lines.{length-bytes, line-bytes}
 use Rattle.lines.proofs.Places.{put-same}
 use Rattle.texts.specs.Text.{lineText}
 use Rattle.running.specs.declared.Run.{Run}
@@ -43,7 +43,7 @@ use Rattle.controller.proofs.Alterations.{raise-is}
 use Rattle.controller.proofs.Wires.{Empty}
 use Rattle.demands.specs.Histories.{Held}
 use Rattle.demands.specs.Sent.{lentBy}
-use Rattle.demands.proofs.OfBytes.{placed-bytes, line-bytes}
+use Rattle.demands.proofs.OfBytes.{placed-bytes}
 use Rattle.demands.proofs.Changing.{changing}
 use Rattle.demands.proofs.Sending.{Leads, leads-append, Fit}
 use Rattle.demands.proofs.Typed.{isPlain, shown-plain, writingTo, doing, Wrote, sent-write}

@@ -13,9 +13,7 @@ use Rattle.formats.specs.Digits.{hIn}
 use Rattle.formats.proofs.Checks.{if-case}
 use Rattle.formats.proofs.Digits.{isBelow}
 use Rattle.formats.proofs.Characters.{h-byte}
-use Rattle.lines.specs.declared.Line.{Line}
-use Rattle.lines.specs.declared.Line.the-variants.{State, For, Next, Bad}
-use Rattle.lines.proofs.Lines.{Fits, Sets, Word, fits-word}
+use Rattle.lines.proofs.Lines.{Fits, Sets, set-by, Word, fits-word}
 use Rattle.lines.proofs.Places.{line-word}
 use Rattle.running.specs.declared.Run.{Run}
 use Rattle.running.specs.declared.Ran.{Ran}
@@ -84,12 +82,6 @@ module _ (k : Call) (lent : Areas) (t : Told) (word : Word (t .run .outputs)) wh
             if-case (λ (x : Ran). OfRun (x .run)) (isTick k && not (t .paused))
             (λ _. tick-outputs Word (lent .program) (line-word (lent .program) bytes) (t .run) word) (λ _. word)
 
-    executed-word : (s : Said) (l : Line) → Sets Word l → OfRun (executed k s lent t l)
-    executed-word s (State o time) h = h
-    executed-word s (For c n) h = word
-    executed-word s (Next c) h = word
-    executed-word s Bad h = word
-
     named-word : (s : Said) → Sets Word (lineNamed k s lent t)
     named-word s =
         if-case (Sets Word) (eqb (t .parameter) 200) (λ _. fits-word (t .single) single)
@@ -101,7 +93,7 @@ module _ (k : Call) (lent : Areas) (t : Told) (word : Word (t .run .outputs)) wh
     unfolding stopped
     by-command s r h =
         if-case OfRun (stops k s lent t) (λ _. word) λ _.
-        if-case OfRun (eqb (given s) 6) (λ _. executed-word s (lineNamed k s lent t) (named-word s)) (λ _. h)
+        if-case OfRun (eqb (given s) 6) (λ _. set-by Word (lineNamed k s lent t) (t .run .outputs) (named-word s) word) (λ _. h)
 
     -- It is a number of four bytes again.
     pub word-then : (s : Said) → ByteSaid s → OfRun (runThen k s lent t)

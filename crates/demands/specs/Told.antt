@@ -9,8 +9,7 @@ use lib.ListN.{length}
 use lib.Dec.{eqb}
 use Rattle.formats.specs.Checks.{if_then_else_}
 use Rattle.lines.specs.declared.Line.{Line}
-use Rattle.lines.specs.declared.Line.the-variants.{State, For, Next, Bad}
-use Rattle.lines.specs.Line.{endMark}
+use Rattle.lines.specs.Line.{endMark, setBy}
 use Rattle.lines.specs.Program.{lineAt}
 use Rattle.running.specs.declared.Run.{Run}
 use Rattle.running.specs.declared.Ran.{Ran}
@@ -96,10 +95,7 @@ module _ (k : Call) (s : Said) (lent : Areas) (t : Told) where
   -- "006 sets the outputs of a State line and ignores its time; For and Next do nothing." 02, item 4, of a Bad line: "Executing one by
   -- 006 does nothing and answers OK."
   abbrev pub executed : Line → Run
-  executed (State outputs time) = withOutputs outputs (t .run)
-  executed (For counter count) = t .run
-  executed (Next counter) = t .run
-  executed Bad = t .run
+  executed l = withOutputs (setBy l (t .run .outputs)) (t .run)
 
   -- the line that the parameter names
   abbrev pub lineNamed : Line

@@ -1,7 +1,7 @@
 -- A number in bytes and back, and the numbers that bytes of a list are.
 -- Assumes nothing.
 use mathlib.Core.Path.{_≡_}
-use Prim.Native.Nat.{ℕ, suc, _^_, _≤_, _<_}
+use Prim.Native.Nat.{ℕ, suc, _+_, _^_, _≤_, _<_}
 use mathlib.Core.Bool.{true}
 use mathlib.Core.List.{List, [], _∷_}
 use lib.ListN.{length, drop, getD, length-take}
@@ -12,7 +12,8 @@ use Rattle.formats.specs.Checks.{all}
 use Rattle.formats.specs.Digits.{number}
 use Rattle.formats.specs.Bytes.{part, field, bytes}
 use Rattle.formats.proofs.Checks.{all-take, all-drop}
-use Rattle.formats.proofs.Digits.{isBelow, number-below, number-digits}
+use Rattle.formats.proofs.Parts.{length-part}
+use Rattle.formats.proofs.Digits.{isBelow, number-below, number-digits, digits-number}
 
 -- a number that fits n bytes is what they stand for
 pub number-bytes : (n v : ℕ) → v < 256 ^ n → number 256 (bytes n v) ≡ v
@@ -24,6 +25,12 @@ field-below i n bs are =
     let short : length (part i n bs) ≤ n = omega (arith, length-take n (drop i bs)) in
     lt-of-lt-of-le (number-below 256 (part i n bs) (all-take (isBelow 256) n (drop i bs) (all-drop (isBelow 256) i bs are)))
     (pow-le-pow-right (omega arith) short)
+
+-- and that number in bytes is those bytes
+pub field-back : (i n : ℕ) (bs : List ℕ) → all (isBelow 256) bs ≡ true → i + n ≤ length bs → bytes n (field i n bs) ≡ part i n bs
+field-back i n bs are inside =
+    digits-number 256 (omega arith) n (part i n bs) (length-part i n bs inside)
+    (all-take (isBelow 256) n (drop i bs) (all-drop (isBelow 256) i bs are))
 
 module _ (bs : List ℕ) (i : ℕ) where
   pub two-at : suc (suc i) ≤ length bs → field i 2 bs ≡ number 256 (getD bs i 0 ∷ getD bs (suc i) 0 ∷ [])

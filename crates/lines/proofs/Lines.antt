@@ -4,19 +4,19 @@ use mathlib.Core.Path.{_≡_, refl, sym}
 use Prim.Native.Nat.{ℕ, _^_, _≤_, _<_}
 use mathlib.Core.Bool.{true, false, _&&_, true≢false}
 use mathlib.Core.List.{List, _++_}
-use lib.ListN.{length, getD}
-use lib.Dec.{leb, eqb}
+use lib.ListN.{length, getD, replicate}
+use lib.Dec.{leb, ltb, eqb}
 use native.Mathlib.Omega.{arith}
-use borrow.Author.Tests.{le-leb, leb-true}
+use borrow.Author.Tests.{le-leb, leb-true, lt-ltb}
 use Rattle.formats.specs.Checks.{all}
 use Rattle.formats.specs.Digits.{digits, numberAfter, number}
 use Rattle.formats.specs.Bytes.{field, bytes}
-use Rattle.formats.proofs.Checks.{if-case, both-true}
-use Rattle.formats.proofs.Digits.{isBelow}
+use Rattle.formats.proofs.Checks.{if-case, both-true, all-append}
+use Rattle.formats.proofs.Digits.{isBelow, digits-below}
 use Rattle.formats.proofs.Bytes.{number-bytes, field-below}
 use Rattle.lines.specs.declared.Line.{Line}
 use Rattle.lines.specs.declared.Line.the-variants.{State, For, Next, Bad}
-use Rattle.lines.specs.Line.{isCounter, isState, isFor, isNext, isBad, readLine, bytesOf}
+use Rattle.lines.specs.Line.{isCounter, isState, isFor, isNext, isBad, setBy, readLine, bytesOf}
 
 -- ---- the ranges
 
@@ -94,6 +94,20 @@ length-bytes (For c n) = refl
 length-bytes (Next c) = refl
 length-bytes Bad = refl
 
+-- a loop counter is a byte
+counter-byte : (c : ℕ) → isCounter c ≡ true → ltb c 256 ≡ true
+counter-byte c e = lt-ltb c 256 (omega (arith, leb-true c 4 (both-true (leb 1 c) (leb c 4) e .1)))
+
+-- A line is stored in bytes.
+pub line-bytes : (l : Line) → Ranged l → all (isBelow 256) (bytesOf l) ≡ true
+unfolding bytesOf
+line-bytes (State o t) r =
+    all-append (isBelow 256) (bytes 4 o) (bytes 2 t) (digits-below 256 (omega arith) 4 o) (digits-below 256 (omega arith) 2 t)
+line-bytes (For c n) r =
+    rw (counter-byte c (r .range .0)) (all-append (isBelow 256) (bytes 2 n) (replicate 4 0) (digits-below 256 (omega arith) 2 n) refl)
+line-bytes (Next c) r = rw (counter-byte c (r .range)) refl
+line-bytes Bad r = refl
+
 -- ---- the outputs that a line sets
 
 -- P holds of them, if the line is a State
@@ -102,6 +116,13 @@ Sets P (State outputs time) = P outputs
 Sets P (For counter count) = Unit {0}
 Sets P (Next counter) = Unit {0}
 Sets P Bad = Unit {0}
+
+-- what holds of those that stood and of those that a line sets holds after it is executed
+pub set-by : (P : ℕ → Type 0) (l : Line) (o : ℕ) → Sets P l → P o → P (setBy l o)
+set-by P (State outputs time) o s h = s
+set-by P (For c n) o s h = h
+set-by P (Next c) o s h = h
+set-by P Bad o s h = h
 
 -- a word is a number of four bytes
 abbrev pub Word : ℕ → Type 0

@@ -19,7 +19,7 @@ use Rattle.lines.proofs.Lines.{Ranged, read-ranged, Fits, bytes-back, l
 -- ---- one line alone
 
 -- A line is read from eight bytes, and what follows them does not matter.
-eight : (bs : List ℕ) → readLine (take 8 bs) ≡ readLine bs
+pub eight : (bs : List ℕ) → readLine (take 8 bs) ≡ readLine bs
 unfolding readLine
 eight [] = refl
 eight (a ∷ []) = refl

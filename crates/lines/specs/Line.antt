@@ -44,6 +44,13 @@ isBad (For counter count) = false
 isBad (Next counter) = false
 isBad Bad = true
 
+-- the outputs after a line that is executed, where o stood before: a State sets its own, any other leaves them
+abbrev pub setBy : Line → ℕ → ℕ
+setBy (State outputs time) o = outputs
+setBy (For counter count) o = o
+setBy (Next counter) o = o
+setBy Bad o = o
+
 -- The eight bytes of a line. No Bad line is ever written (`texts/Texts.never-bad`); what stands for one here are eight bytes that are Bad.
 unfoldable pub bytesOf : Line → List ℕ
 bytesOf (State outputs time) = 0x53 ∷ 0 ∷ (bytes 4 outputs ++ bytes 2 time)

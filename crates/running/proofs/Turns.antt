@@ -3,15 +3,18 @@
 use Prim.Native.Nat.{ℕ, suc, _+_, _-_, _≤_, _<_}
 use native.Mathlib.Omega.{arith}
 use mathlib.Core.Path.{_≡_, refl, sym, ap, _∙_}
-use mathlib.Core.Bool.{true, false}
-use mathlib.Core.List.{List}
+use mathlib.Core.Bool.{true}
+use mathlib.Core.List.{List, [], _∷_}
 use lib.Dec.{leb}
 use borrow.Author.Tests.{leb-true}
+use types.Run.{OneOf, miss}
+use denote.Enum.Declared.{tagOf}
 use Rattle.formats.proofs.Checks.{both-true}
 use Rattle.lines.specs.declared.Line.{Line}
 use Rattle.lines.specs.declared.Line.the-variants.{State, For, Next, Bad}
 use Rattle.lines.specs.Line.{isCounter}
 use Rattle.lines.specs.Program.{lineAt}
+use Rattle.lines.proofs.Line as L
 use Rattle.lines.proofs.Places.{line-ranged}
 use Rattle.running.specs.declared.Run.{Run}
 use Rattle.running.specs.declared.How.the-variants.{Holds, Ends, GoesOn}
@@ -20,7 +23,7 @@ use Rattle.running.specs.Running.{onward, tick, runLine, isForOrNext, co
 use Rattle.running.proofs.Ways.{state-ways, bad-way}
 use Rattle.running.proofs.Invariant.{Going, onward-going, step-going}
 use Rattle.running.proofs.Waiting.{due-at}
-use Rattle.running.proofs.Steps.{loop-over}
+use Rattle.running.proofs.Steps.{bad-line, loop-over}
 
 -- ---- the counters that lines name
 
@@ -74,15 +77,25 @@ module _ (p : List ℕ) (r : Run) (n : ℕ) (l : Line) (q : ℕ) (s : Step)
 pub all-counted : (p : List ℕ) (r : Run) (n : ℕ) → 400 ≤ n → runDue p 0 n r ≡ runDue p (400 - n) n r
 all-counted p r n le = let z : 400 - n ≡ 0 = omega arith in rw z
 
+-- a line that is neither Bad nor State is counted
+other-counted : (l : Line) → OneOf (0 ∷ 1 ∷ 2 ∷ []) (tagOf L.the-type l) → OneOf (1 ∷ 2 ∷ 3 ∷ []) (tagOf L.the-type l) → isForOrNext l ≡ true
+other-counted (State o t) h g = absurd (miss (1 ∷ 2 ∷ 3 ∷ []) 0 tt g)
+other-counted (For c m) h g = refl
+other-counted (Next c) h g = refl
+other-counted Bad h g = absurd (miss (0 ∷ 1 ∷ 2 ∷ []) 3 tt h)
+
 -- the line that is due when no more may be counted
 module _ (p : List ℕ) (r : Run) (n : ℕ) (l : Line) (due : l ≡ lineAt p (r .line)) where
-  pub last-stops : isForOrNext l ≡ true → stops 13 n r ≡ runDue p 0 n r
-  last-stops loop = sym (loop-over p r (ap isForOrNext (sym due) ∙ loop) n)
+  pub last-bad : l ≡ Bad → stops 14 n r ≡ runDue p 0 n r
+  last-bad is = sym (bad-line p r (sym due ∙ is) 0 n)
 
-  module _ (other : isForOrNext l ≡ false) (s : Step) (is : s ≡ step p r) where
+  pub last-stops : OneOf (0 ∷ 1 ∷ 2 ∷ []) (tagOf L.the-type l) → OneOf (1 ∷ 2 ∷ 3 ∷ []) (tagOf L.the-type l) → stops 13 n r ≡ runDue p 0 n r
+  last-stops h g = sym (loop-over p r (ap isForOrNext (sym due) ∙ other-counted l h g) n)
+
+  module _ {o t : ℕ} (state : l ≡ State o t) (s : Step) (is : s ≡ runLine [] (State o t) r) where
     last : runDue p 0 n r ≡ follow (s .how) n (s .run) (λ x. rests n x)
-    unfolding runDue
-    last = rw (ap isForOrNext (sym due) ∙ other, is)
+    unfolding runDue step runLine
+    last = let e = sym due ∙ state in rw (e, is)
 
     pub last-holds : s .how ≡ Holds → rests n (s .run) ≡ runDue p 0 n r
     last-holds w = sym (last ∙ simp w)

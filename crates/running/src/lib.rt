@@ -9,7 +9,7 @@ ghost use Rattle.lines.specs.declared.Line.the-variants.{State, For, Next};
 ghost use Rattle.lines.specs.Line.{isCounter};
 ghost use Rattle.lines.specs.Program.{lineAt};
 ghost use Rattle.running.specs.Running.{free, allFree, freshRun, begun, isFree, withOutputs, stopped, onward, runLine};
-ghost use Rattle.running.specs.Running.{isForOrNext, counted, step, runDue, start, tick};
+ghost use Rattle.running.specs.Running.{counted, stops, step, runDue, start, tick};
 ghost use Rattle.running.specs.Invariant.{RunInvariant};
 use lines::Line;
 
@@ -57,32 +57,22 @@ pub struct Ran {
 
 // ---- one line
 
-// A line that a call counts.
-fn is_for_or_next(line: Line) -> bool
-    ensures test { λ r. ⌜ r ≡ isForOrNext line ⌝ }
+// 1 for a line that a call counts, a For or a Next; 0 for any other.
+fn counted(line: Line) -> u16
+    ensures number { λ r. ⌜ r ≡ counted line ⌝ }
 {
     match line {
         Line::State {
             outputs: _,
             time: _,
-        } => false,
+        } => 0,
         Line::For {
             counter: _,
             count: _,
-        } => true,
-        Line::Next { counter: _ } => true,
-        Line::Bad => false,
+        } => 1,
+        Line::Next { counter: _ } => 1,
+        Line::Bad => 0,
     }
-}
-
-// 1 for a line that a call counts, 0 for any other.
-fn counted(line: Line) -> u16
-    ensures number { λ r. ⌜ r ≡ counted line ⌝ }
-{
-    if is_for_or_next(line) {
-        return 1;
-    }
-    0
 }
 
 // A counter that is free.
@@ -277,21 +267,33 @@ impl Run {
 
     // ---- the lines of one call
 
-    // What is due when n lines were run and no more may be: for a For or a Next the program stops with event 013; any other line is run.
+    // The program stops with an event, after n lines.
+    fn ended(self, event: u8, n: u16) -> Ran
+        ensures ran { λ r. ⌜ r ≡ stops event n self ⌝ }
+    {
+        let run = self.stopped();
+        Ran {
+            run,
+            event,
+            lines: n,
+        }
+    }
+
+    // What is due when n lines were run and no more may be: a State line is run, a Bad one ends the program with event 014; for any other
+    // it stops with event 013.
     fn last_due(self, p: &[u8], n: u16) -> Ran
         requires { ⌜ (length (now p) ≡ 1600) × (RunInvariant self) ⌝ }
         ensures ran { λ r. ⌜ r ≡ runDue (now (p .entry)) 0 n self ⌝ }
     {
         let k = self.line;
         let line = lines::line_at(p, k as usize);
-        if is_for_or_next(line) {
-            return Ran {
-                run: self.stopped(),
-                event: 13,
-                lines: n,
-            };
+        if let Line::Bad = line {
+            return self.ended(14, n);
         }
-        let s = self.run_line(p, line);
+        let Line::State { outputs, time } = line else {
+            return self.ended(13, n);
+        };
+        let s = self.run_state(outputs, time);
         let run = s.run;
         let how = s.how;
         match how {
@@ -300,11 +302,7 @@ impl Run {
                 event: 0,
                 lines: n,
             },
-            How::Ends(event) => Ran {
-                run: run.stopped(),
-                event,
-                lines: n,
-            },
+            How::Ends(event) => run.ended(event, n),
             How::GoesOn => Ran {
                 run,
                 event: 0,
@@ -336,11 +334,7 @@ impl Run {
                     };
                 }
                 How::Ends(event) => {
-                    return Ran {
-                        run: run.stopped(),
-                        event,
-                        lines: m,
-                    };
+                    return run.ended(event, m);
                 }
                 How::GoesOn => {
                     n = m;
@@ -381,11 +375,7 @@ impl Run {
                 event: 0,
                 lines: 0,
             },
-            How::Ends(event) => Ran {
-                run: run.stopped(),
-                event,
-                lines: 0,
-            },
+            How::Ends(event) => run.ended(event, 0),
             How::GoesOn => run.run_due(p),
         }
     }

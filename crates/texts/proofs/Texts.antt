@@ -3,7 +3,7 @@
 use mathlib.Core.Path.{_≡_, refl, sym, ap, ap₂, _∙_}
 use Prim.Native.Nat.{ℕ, _+_, _^_, _≤_, _<_}
 use Prim.Native.Char.{code}
-use mathlib.Core.Bool.{Bool, true, false}
+use mathlib.Core.Bool.{Bool, true, false, true≢false}
 use mathlib.Core.List.{List, [], _∷_, _++_, append-nil}
 use lib.ListN.{length, take, drop, getD, length-append, take-append-drop}
 use lib.Seq.{drop-drop, drop-cons, drop-length, take-at, drop-at, take-all}
@@ -132,6 +132,24 @@ never-bad cs = go (lineIn cs) (accepted-shows cs)
     go : (r : Res Line) → Ok (Sent cs) r → Ok (λ l. isBad l ≡ false) r
     go (refused e) s = tt
     go (passed l) s = fits-good l (s .fits)
+
+-- ---- what every line's characters are like
+
+-- they are at most fifteen
+pub text-length : (l : Line) → length (lineText l) ≤ 15
+unfolding lineText text
+text-length (State o t) = simp (length-append, length-shown) (omega arith)
+text-length (For c n) = simp (length-append, length-shown) (omega arith)
+text-length (Next c) = simp length-shown (omega arith)
+text-length Bad = omega arith
+
+-- and do not begin with E, whatever follows them
+pub no-error : (l : Line) (r : List ℕ) → isBad l ≡ false → eqb (getD (lineText l ++ r) 0 0) (code "E") ≡ false
+unfolding lineText text
+no-error (State o t) r good = refl
+no-error (For c n) r good = refl
+no-error (Next c) r good = refl
+no-error Bad r good = absurd (true≢false good)
 
 -- ---- what is shown is read back
 

@@ -52,8 +52,8 @@ returns c =
 enum-known-how : tie.Need-enum-known-how Inv-loop μ-loop
 enum-known-how c = search needs
 
-stopped-requires : tie.Need-stopped-requires Inv-loop μ-loop
-stopped-requires c κs = search needs
+ended-requires : tie.Need-ended-requires Inv-loop μ-loop
+ended-requires c κs = search needs
 
 returns-2 : tie.Need-returns-2 Inv-loop μ-loop
 returns-2 c =
@@ -63,8 +63,8 @@ returns-2 c =
     let counted = c .before .before .before .before .before .before .counted in
     let run-line = c .before .before .before .before .before .run-line in
     let how = c .before .before .how in
-    simp (c .stopped .ensures)
-    (due-ends _ _ _ _ _ _ (loop-test .taken) (line-at .ensures) (counted .ensures) (run-line .ensures) (how .given .1) ∙ sym (loop .inv .2))
+    c .ended .ensures
+    ∙ due-ends _ _ _ _ _ _ (loop-test .taken) (line-at .ensures) (counted .ensures) (run-line .ensures) (how .given .1) ∙ sym (loop .inv .2)
 
 enum-told-2 : tie.Need-enum-told-2 Inv-loop μ-loop
 enum-told-2 c = search needs
@@ -114,7 +114,7 @@ run-due-spec =
     enum-told
     returns
     enum-known-how
-    stopped-requires
+    ended-requires
     returns-2
     enum-told-2
     loop-less

@@ -29,8 +29,8 @@ enum-told c = search needs
 enum-known-how : tie.Need-enum-known-how
 enum-known-how c = search needs
 
-stopped-requires : tie.Need-stopped-requires
-stopped-requires c κs = search needs
+ended-requires : tie.Need-ended-requires
+ended-requires c κs = search needs
 
 enum-told-2 : tie.Need-enum-told-2
 enum-told-2 c = search needs
@@ -61,7 +61,7 @@ returns-4 c =
     let if2 = c .before .before .before .before .before .before .if2 in
     let onward = c .before .before .before .before .before .onward in
     let how = c .before .before .how in
-    simp (c .stopped .ensures) (tick-ends _ _ _ (not-false (args .self .on) (if1 .left)) (if2 .left) (onward .ensures) (how .given .1))
+    c .ended .ensures ∙ tick-ends _ _ _ (not-false (args .self .on) (if1 .left)) (if2 .left) (onward .ensures) (how .given .1)
 
 returns-5 : tie.Need-returns-5
 returns-5 c =
@@ -81,7 +81,7 @@ tick-spec =
     onward-requires
     enum-told
     enum-known-how
-    stopped-requires
+    ended-requires
     enum-told-2
     run-due-requires
     returns-3
