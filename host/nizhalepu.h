@@ -70,7 +70,7 @@ enum {
     NIZHALEPU_E_NOTHING_TO_PAUSE = 22, /* 002, and none runs: read 211 and 212 for where and how the last one stopped */
     NIZHALEPU_E_OUT_OF_REACH = 23,     /* 209 is above 199 for 005, above 200 for 006: write 209 and send it again */
     /* at a read of 000-199, and nowhere else */
-    NIZHALEPU_E_BAD_LINE = 24          /* what stands there is no line: write it, or load a sound copy; I and D stay before it */
+    NIZHALEPU_E_BAD_LINE = 24          /* what stands there is no line: write it, or load a sound copy; I and D go by the last good read */
 };
 
 /* ---- events: the number in 212, 0 once it was read, and the line that 211 then shows. All but the power-on are stops. */

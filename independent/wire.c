@@ -290,7 +290,7 @@ static bool write_locked(const struct box *box, unsigned address)
     return box->mode != STOPPED && address != V_PARAMETER && address != V_SPECIAL;
 }
 
-/* Puts the reply without its 13 and answers its end. The last address moves only where there is no error, E024 among them. */
+/* Puts the reply without its 13 and answers its end. The last address moves only where there is no error; E024 is one. */
 static uint8_t *answer(struct box *box, const struct lent *lent, uint8_t *reply, uint16_t *lines)
 {
     struct command command;

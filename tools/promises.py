@@ -16,7 +16,10 @@ import sys
 
 ROOT = os.path.dirname(os.path.dirname(os.path.abspath(__file__)))
 FOLDERS = ('.ci', 'crates', 'docs', 'host', 'independent', 'model', 'tools')
-SCENARIOS = {'corners': ('wire_corners.py', 'running_corners.py', 'none_corners.py', 'bad_corners.py'), 'trials': ('call_trials.py', 'trials.py', 'bad_trials.py')}
+SCENARIOS = {
+    'corners': ('wire_corners.py', 'running_corners.py', 'none_corners.py', 'bad_corners.py'),
+    'trials': ('call_trials.py', 'trials.py', 'bad_trials.py'),
+}
 
 
 def read(*path):

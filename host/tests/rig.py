@@ -6,7 +6,7 @@ running box.
 """
 import sys
 
-from rig_bad_lines import reads_of_bad_lines, runs_of_bad_lines, saving
+from rig_bad_lines import bad_line_in_a_loop, bad_lines_at_edges, bad_lines_in_a_search, reads_of_bad_lines, saving
 from rig_script import END_MARK, answers, asked, change, empty, gap, line, on, press, send, tick
 
 
@@ -257,7 +257,9 @@ points_of_special_commands()
 bench()
 saving()
 reads_of_bad_lines()
-runs_of_bad_lines()
+bad_line_in_a_loop()
+bad_lines_at_edges()
+bad_lines_in_a_search()
 refusals()
 areas()
 unread()

@@ -56,8 +56,8 @@ def reads_of_bad_lines():
     send("CR001", "N2")
 
 
-def runs_of_bad_lines():
-    """014 at that line, which is not counted; 006 does nothing; the search for a Next passes over it."""
+def bad_line_in_a_loop():
+    """014 at that line, which is not counted; 006 on it does nothing."""
     on(saved="4601000200000000" + "5300000000050002" + BAD[7] + "4E01000000000000" + END_MARK * 196)
     send("CW210003", "OK", 1)
     send("CR213", "0002")
@@ -73,11 +73,28 @@ def runs_of_bad_lines():
     send("CR212", "014")
     empty(change(1, 0, 5))
 
+
+def bad_lines_at_edges():
+    """Behind 400 For and Next lines; first; on line 199."""
     on(saved="4601018F00000000" + "4E01000000000000" + BAD[0] * 198)  # F10399
     send("CW210003", "OK", 400)
     send("CR212", "014")  # not 013: no For or Next is due
     send("CR211", "002")
 
+    on(saved=BAD[1] + END_MARK * 197 + "5300000000000001" + BAD[1])
+    press(1)
+    send("CR212", "014")
+    send("CR211", "000")
+    send("CW209198", "OK")
+    send("CW210005", "OK")
+    tick()
+    send("CR212", "014")  # not 009: 199 itself is Bad
+    send("CR211", "199")
+    empty()
+
+
+def bad_lines_in_a_search():
+    """The search for a Next passes over them, and a damaged Next is none."""
     on(saved="4601000100000000" + BAD[-1] + END_MARK * 198)  # 001 is almost a Next 1
     send("CW210003", "OK", 1)
     send("CR212", "007")
@@ -90,14 +107,3 @@ def runs_of_bad_lines():
     send("CW210003", "OK", 1)  # a loop of none: on at 004
     send("CR212", "011")
     send("CR211", "004")
-
-    on(saved=BAD[1] + END_MARK * 197 + "5300000000000001" + BAD[1])
-    press(1)
-    send("CR212", "014")
-    send("CR211", "000")
-    send("CW209198", "OK")
-    send("CW210005", "OK")
-    tick()
-    send("CR212", "014")  # not 009: 199 itself is Bad
-    send("CR211", "199")
-    empty()

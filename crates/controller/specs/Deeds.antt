@@ -75,7 +75,7 @@ save a = withSaved (a .program) a
 -- ---- the special commands
 
 -- "006 sets the outputs of a State line and ignores its time; For and Next do nothing." 02, item 4, of a Bad line: "Executing one by 006
--- does nothing and answers OK."
+-- does nothing and answers OK." What does nothing sets the outputs to what they are.
 abbrev pub execute : Line → Controller → Controller
 execute l c = withRun (withOutputs (setBy l (c .run .outputs)) (c .run)) c
 

@@ -24,7 +24,7 @@ use Rattle.demands.specs.Histories.{ending, Made}
 use Rattle.demands.specs.Seen.{isTaken, reply, seen}
 use Rattle.demands.specs.Told.{Told, told}
 use Rattle.demands.specs.ReadBack.{Arrives}
-use Rattle.demands.specs.Replies.{panelOf}
+use Rattle.demands.specs.Replies.{panelOf, isBadThen}
 use Rattle.demands.proofs.AsTold.{held-as-told}
 use Rattle.demands.proofs.Replies.{reads-as-told}
 
@@ -33,12 +33,12 @@ module _ (t : Told) (fits : Fits (t .single)) (program : List ℕ) where
   single-is : readLine (bytesOf (t .single)) ≡ t .single
   single-is = single-back (t .single) fits
 
-  single-not-bad : isBadAt (panelOf t) program 200 ≡ false
+  single-not-bad : isBadThen t program 200 ≡ false
   unfolding isBadAt lineOf
   single-not-bad = ap isBad single-is ∙ fits-good (t .single) fits
 
   -- a Bad line that can be read is one of the program
-  pub bad-in-program : (k : ℕ) → isBadAt (panelOf t) program k ≡ true → (k ≤ 199) × (lineAt program k ≡ Bad)
+  pub bad-in-program : (k : ℕ) → isBadThen t program k ≡ true → (k ≤ 199) × (lineAt program k ≡ Bad)
   unfolding isBadAt lineOf
   bad-in-program k bad = go (eqb k 200) refl (both-true (leb k 200) _ bad)
     where
@@ -49,7 +49,7 @@ module _ (t : Told) (fits : Fits (t .single)) (program : List ℕ) where
           let le : k ≤ 200 = leb-true k 200 (is .0) in
           (omega arith, is-bad _ (rw e at (is .1)))
 
-bad-at : (t : Told) (program : List ℕ) (k : ℕ) → k ≤ 199 → lineAt program k ≡ Bad → isBadAt (panelOf t) program k ≡ true
+bad-at : (t : Told) (program : List ℕ) (k : ℕ) → k ≤ 199 → lineAt program k ≡ Bad → isBadThen t program k ≡ true
 unfolding isBadAt lineOf
 bad-at t program k le line = let ne : (k ≡ 200 → ⊥) = λ z. omega arith in rw (le-leb k 200 (omega arith), ne-eqb k 200 ne, line)
 
@@ -59,15 +59,15 @@ module _ (ms : List Made) (a : Areas) (address : List ℕ) (arrived : Arrives (t
   -- "reading a Bad line over the wire answers E024", whatever ran before and whatever was read
   pub bad-read : (k : ℕ) → k ≤ 199 → Names (told ms .nextRead) k address → lineAt (a .program) k ≡ Bad → reply (seen ms (ending a)) ≡ ended (errorText 24)
   bad-read k le named line =
-      reads-as-told ms a k (omega arith) address arrived named taken .0 ∙ rw (bad-at (told ms) (a .program) k le line)
+      reads-as-told ms a k (omega arith) address arrived named taken .1 (bad-at (told ms) (a .program) k le line)
 
   -- What 200 holds is never Bad: it is shown as the line that was last written there, or the end mark of power-on.
   pub single-read : Names (told ms .nextRead) 200 address → reply (seen ms (ending a)) ≡ ended (lineText (told ms .single))
   unfolding value lineOf
   single-read named =
       let fits = held-as-told ms .panel .fits in
-      reads-as-told ms a 200 (omega arith) address arrived named taken .0
-      ∙ rw (single-not-bad (told ms) fits (a .program)) (ap (λ l. ended (lineText l)) (single-is (told ms) fits (a .program)))
+      reads-as-told ms a 200 (omega arith) address arrived named taken .0 (single-not-bad (told ms) fits (a .program)) .0
+      ∙ ap (λ l. ended (lineText l)) (single-is (told ms) fits (a .program))
 
 -- So the history says a line of 200, and no Bad one.
 pub single-good : (ms : List Made) → isBad (told ms .single) ≡ false

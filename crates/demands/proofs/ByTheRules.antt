@@ -3,17 +3,25 @@
 -- traffic makes a step early or late, and pausing neither gains nor loses a tick."
 -- Assumes nothing.
 use mathlib.Core.Path.{_≡_, refl, sym, ap, ap₂, subst, _∙_}
-use Prim.Native.Nat.{ℕ, _≤_}
+use Prim.Native.Nat.{ℕ, _+_, _≤_, _<_}
 use mathlib.Core.Bool.{Bool, true, false, not, _&&_, _||_, true≢false}
 use mathlib.Core.List.{List, [], _∷_, _++_}
 use mathlib.Core.Option.{some}
 use lib.Dec.{eqb}
+use borrow.Author.Tests.{ne-eqb}
 use Rattle.formats.specs.Checks.{if_then_else_, text}
 use Rattle.formats.proofs.Checks.{not-some, neither, both-false}
+use Rattle.lines.specs.declared.Line.the-variants.{Bad}
+use Rattle.lines.specs.Program.{lineAt}
 use Rattle.running.specs.declared.Run.{Run}
 use Rattle.running.specs.declared.Ran.{Ran}
-use Rattle.running.specs.Running.{start, tick, ticks}
-use Rattle.running.proofs.Ending.{Ended, start-ends, tick-ends-so}
+use Rattle.running.specs.Running.{atLine, stopped, most, start, tick, ticks}
+use Rattle.running.specs.Running as Running
+use Rattle.running.specs.Ended.{Ended}
+use Rattle.running.proofs.Ending.{start-told, tick-told, start-ends, tick-ends-so}
+use Rattle.running.proofs.Ending as Ending
+use Rattle.running.proofs.Steps.{bad-line, bad-due}
+use Rattle.variables.specs.Variables.{value}
 use Rattle.wire.specs.Naming.{Names}
 use Rattle.controller.specs.declared.Controller.{Controller}
 use Rattle.controller.specs.Controller.{Areas}
@@ -26,7 +34,7 @@ use Rattle.demands.specs.Histories.{ending, ticking, Made, Held, unpower
 use Rattle.demands.specs.Seen.{isTaken, reply, seen, outputs, Note, note, notes}
 use Rattle.demands.specs.Said.{Said, silence, reads, writesLine, writesOutputs, writesParameter, gives, given, readsEvent}
 use Rattle.demands.specs.Told.{Told, said, pausedThen, starts, ran, afterwards, tell, tellAll, told}
-use Rattle.demands.specs.Replies.{panelOf, readAs}
+use Rattle.demands.specs.Replies.{panelOf, isBadThen}
 use Rattle.demands.specs.ReadBack.{Arrives}
 use Rattle.demands.specs.Undisturbed.{Unbroken, unpaused, isBroken, isPausing}
 use Rattle.demands.proofs.Answered.{invariant-always}
@@ -162,6 +170,13 @@ module _ (before : List Made) (m : Made) (k : ℕ) (taken : isTaken (seen before
       ap (λ (t : Told). t .event) (told-more before (m ∷ []) ∙ tell-taken (told before) h m start-other taken)
       ∙ rw (only .0, only .1)
 
+-- what the history says of a start or a tick that ended the program is what the rules say of it
+told-end : (p : List ℕ) (x : Ran) (before : ℕ) → Ending.Told x → Ended p (x .event) (x .run) → {r : Run} {e : ℕ} → r ≡ x .run
+    → e ≡ (if eqb (x .event) 0 then before else x .event) → r .on ≡ false → Ended p e r
+told-end p x before (Ending.goesOn on _) so f g off = absurd (true≢false (sym on ∙ sym (ap (λ (r : Run). r .on) f) ∙ off))
+told-end p x before (Ending.hasEnded _ ne) so {r} f g off =
+    subst (λ e. Ended p e r) (sym (g ∙ rw (ne-eqb (x .event) 0 ne))) (subst (Ended p (x .event)) (sym f) so)
+
 -- ---- the demand
 
 -- After the calls `before` the call m is an accepted start at line k: by 003, by 005 at the parameter, or by the button. Then come the
@@ -227,13 +242,13 @@ module _ (before : List Made) (m : Made) (k : ℕ) (ms : List Made) (taken : isT
   pub outputs-by-the-rules : ruled count .on ≡ true → outputs now ≡ ruled count .outputs
   outputs-by-the-rules on = outputs-as-told now ∙ ap (λ (r : Run). r .outputs) (runs-by-the-rules on .0)
 
-  -- And so is what a read of any address answers: of 201, 203-206, 211 and 213-216 what the rules' run has there.
+  -- And so is what a read of any address answers at which no Bad line stands: of 201, 203-206, 211 and 213-216 what the rules' run has there.
   pub reads-by-the-rules : ruled count .on ≡ true → (a : Areas) (j : ℕ) → j ≤ 216 → (address : List ℕ) → Arrives (told now) (text "CR" ++ address)
-      → Names (told now .nextRead) j address → isTaken (seen now (ending a)) ≡ true
-      → reply (seen now (ending a)) ≡ ended (readAs (panelOf (told now)) (ruled count) (told now .paused) (a .program) j)
-  reads-by-the-rules on a j inside address arrived named ok =
-      reads-as-told now a j inside address arrived named ok .0
-      ∙ ap (λ r. ended (readAs (panelOf (told now)) r (told now .paused) (a .program) j)) (runs-by-the-rules on .0)
+      → Names (told now .nextRead) j address → isTaken (seen now (ending a)) ≡ true → isBadThen (told now) (a .program) j ≡ false
+      → reply (seen now (ending a)) ≡ ended (value (panelOf (told now)) (ruled count) (told now .paused) (a .program) j)
+  reads-by-the-rules on a j inside address arrived named ok good =
+      reads-as-told now a j inside address arrived named ok .0 good .0
+      ∙ ap (λ r. ended (value (panelOf (told now)) r (told now .paused) (a .program) j)) (runs-by-the-rules on .0)
 
   -- The next tick that is taken unpaused does what the rules' next tick does: the program goes on, or it ends, with its event, exactly as they
   -- say (`running/Ending.tick-told`: a tick of the rules has an event exactly if it ends the program). It returns the number of lines they say.
@@ -250,17 +265,45 @@ module _ (before : List Made) (m : Made) (k : ℕ) (ms : List Made) (taken : isT
         tick-lines now a ok unpaused ∙ ap (λ (x : Ran). x .lines) r,
       )
 
-  -- 02, item 4: a Bad line does not look like an end. Where that tick ends the program with 011, an end mark stands at the line that 211 then
-  -- shows, and the outputs are its; where with 014, a Bad line stands there.
+  -- 02, item 4: a Bad line does not look like an end. Where that tick ends the program and 212 then has 011, an end mark stands at the line that
+  -- 211 shows, and the outputs are its; where it has 014, a Bad line stands there.
   pub ends-where-it-says : ruled count .on ≡ true → (a : Areas) → isTaken (seen now (ticking a)) ≡ true → HandsOn (after unpowered now) (ticking a)
-      → told now .paused ≡ false → Ended program (tick program (ruled count) .event) (told (now ++ (ticking a ∷ [])) .run)
+      → told now .paused ≡ false → let gone = told (now ++ (ticking a ∷ [])) in gone .run .on ≡ false → Ended program (gone .event) (gone .run)
   ends-where-it-says on a ok hand unpaused =
-      subst (Ended program (tick program (ruled count) .event)) (sym (ends-by-the-rules on a ok hand unpaused .0)) (tick-ends-so program (ruled count))
+      let by = ends-by-the-rules on a ok hand unpaused in
+      told-end program (tick program (ruled count)) (told now .event) (tick-told program (ruled count) on) (tick-ends-so program (ruled count)) (by .0) (by .1)
 
   -- and the same of a start that ends the program at once
-  pub start-ends-where-it-says : Ended program (start program k (outputs before) .event) (told begun .run)
+  pub start-ends-where-it-says : told begun .run .on ≡ false → Ended program (told begun .event) (told begun .run)
   start-ends-where-it-says =
-      subst (Ended program (start program k (outputs before) .event)) (sym (starts-by-the-rules .0)) (start-ends program k (outputs before))
+      let r = start program k (outputs before) in
+      told-end program r (told before .event) (start-told program k (outputs before)) (start-ends program k (outputs before)) (starts-by-the-rules .0)
+      (starts-by-the-rules .1)
+
+  -- And a Bad line does end it so: 014, with 211 on it, the outputs as they stood, every loop free and no line counted. At a start,
+  pub bad-start : lineAt program k ≡ Bad
+      → (told begun .event ≡ 14) × (told begun .run ≡ stopped (Running.begun k (outputs before))) × (seen before m .lines ≡ 0)
+  unfolding start
+  bad-start bad =
+      let r = bad-line program (Running.begun k (outputs before)) bad most 0 in
+      let s = starts-by-the-rules in (
+        s .1 ∙ ap (λ (x : Ran). if eqb (x .event) 0 then told before .event else x .event) r,
+        s .0 ∙ ap (λ (x : Ran). x .run) r,
+        s .2 ∙ ap (λ (x : Ran). x .lines) r,
+      )
+
+  -- and at the tick on which it falls due.
+  pub bad-tick : (on : ruled count .on ≡ true) → (a : Areas) → isTaken (seen now (ticking a)) ≡ true → HandsOn (after unpowered now) (ticking a)
+      → told now .paused ≡ false → ruled count .wait ≤ 1 → ruled count .line < 199 → lineAt program (ruled count .line + 1) ≡ Bad
+      → let gone = told (now ++ (ticking a ∷ [])) in
+      (gone .event ≡ 14) × (gone .run ≡ stopped (atLine (ruled count .line + 1) (ruled count))) × (seen now (ticking a) .lines ≡ 0)
+  bad-tick on a ok hand unpaused due before-last bad =
+      let r = bad-due program (ruled count) on due before-last bad in
+      let s = ends-by-the-rules on a ok hand unpaused in (
+        s .1 ∙ ap (λ (x : Ran). if eqb (x .event) 0 then told now .event else x .event) r,
+        s .0 ∙ ap (λ (x : Ran). x .run) r,
+        s .2 ∙ ap (λ (x : Ran). x .lines) r,
+      )
 
 paused-stays : (k : Call) (s : Said) (a : Areas) (t : Told) → eqb (given s) 1 ≡ false → isPress 1 k ≡ false
     → (eqb (given s) 2 || eqb (given s) 4 || isPress 2 k) ≡ false → pausedThen k s a t ≡ t .paused

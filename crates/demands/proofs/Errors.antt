@@ -1,4 +1,4 @@
--- What an error says is so: it is read off the characters received and off what the history says.
+-- What an error says is so: it is read off the characters received, off what the history says and off the program lent. And what it leaves.
 -- Assumes nothing.
 use mathlib.Core.Path.{_≡_, refl, sym, ap, subst, _∙_}
 use mathlib.Core.Logic.{_⊎_, inl, inr, ⊎-elim}
@@ -6,26 +6,28 @@ use Prim.Native.Nat.{ℕ, _≤_, _<_}
 use native.Mathlib.Omega.{arith}
 use mathlib.Core.Bool.{true, true≢false}
 use mathlib.Core.List.{List, [], _∷_, _++_}
+use borrow.Author.Tests.{eqb-true}
 use Rattle.formats.specs.Checks.{Res, refused, passed}
 use Rattle.formats.specs.Digits.{errorText}
 use Rattle.formats.proofs.Checks.{Err, err-at, err-known}
-use Rattle.variables.specs.Variables.{isBadAt}
 use Rattle.special.specs.Special.{modeOf}
 use Rattle.wire.specs.declared.Asked.{Asked}
 use Rattle.wire.specs.Command.{rest}
 use Rattle.wire.specs.Grounds.{Ground, tooShort, noCommand, noReadAddress, noWriteAddress, notWritable, locked, leftOver, ofData, ofSpecial}
 use Rattle.wire.proofs.Grounds.{error-grounded}
 use Rattle.controller.specs.declared.Controller.{Controller}
-use Rattle.controller.specs.Controller.{Areas}
-use Rattle.controller.specs.Deeds.{ended, asked}
+use Rattle.controller.specs.Controller.{Areas, withOut}
+use Rattle.controller.specs.Deeds.{over, ended, asked}
+use Rattle.controller.specs.Calls.{After}
+use Rattle.controller.proofs.Errors.{error-changes-nothing}
 use Rattle.controller.proofs.Lines.{replyOf}
 use Rattle.controller.proofs.Legible.{legible-err}
 use Rattle.controller.specs.Refusals.{byte}
 use Rattle.demands.specs.Said.{silence}
-use Rattle.demands.specs.Histories.{ending, Made, unpowered, after}
-use Rattle.demands.specs.Seen.{isTaken, reply, seen, isError, note, notes}
+use Rattle.demands.specs.Histories.{ending, Made, unpowered, outcome, after}
+use Rattle.demands.specs.Seen.{isTaken, reply, seen, outputs, isError, note, notes}
 use Rattle.demands.specs.Told.{Told, said, tellAll, afterwards, told}
-use Rattle.demands.specs.Replies.{wireOf, checksOf, commandOf, panelOf}
+use Rattle.demands.specs.Replies.{wireOf, checksOf, commandOf, isBadThen}
 use Rattle.demands.specs.Specials.{dueThen}
 use Rattle.demands.specs.Errors.{kept, Grounded, byCheck, badLine}
 use Rattle.demands.proofs.Formats.{error-is-error, error-same}
@@ -82,7 +84,7 @@ module _ (ms : List Made) (a : Areas) (accepted : isTaken (seen ms (ending a)) �
       -- of the seven checks, and behind them of a Bad line
       ground : Err (Grounded (told ms) (a .program)) (commandOf (told ms) (a .program))
       ground =
-          legible-err (isBadAt (panelOf (told ms)) (a .program)) (Grounded (told ms) (a .program)) (checksOf (told ms))
+          legible-err (isBadThen (told ms) (a .program)) (Grounded (told ms) (a .program)) (checksOf (told ms))
           (err-known (Grounded (told ms) (a .program)) (checksOf (told ms)) λ e f.
           grounded (told ms) (a .program) e (err-at (OfTold (told ms)) (error-grounded _ _ _ (told ms .parameter)) f))
           λ k f bad. let at = bad-in-program (told ms) (held-as-told ms .panel .fits) (a .program) k bad in badLine refl k (at .0) f (at .1)
@@ -106,8 +108,32 @@ module _ (ms : List Made) (a : Areas) (accepted : isTaken (seen ms (ending a)) �
   unfolding seen said note
   error-silent is = rw is
 
-  -- "An error reply changes nothing but the emptied collection": after it the history says what it said before, with nothing received, and of
-  -- the areas the reply alone is written. E024 is such an error: the address that I and D go by stays.
+  -- what byte 13 found is an error
+  found-error : isError (reply (seen ms (ending a))) ≡ true → (e : ℕ) × (asked (after unpowered ms .state) (a .program) ≡ refused e)
+  unfolding seen
+  found-error is = go (asked (after unpowered ms .state) (a .program)) refl
+    where
+      go : (r : Res Asked) → asked (after unpowered ms .state) (a .program) ≡ r → (e : ℕ) × (asked (after unpowered ms .state) (a .program) ≡ refused e)
+      go (refused e) f = (e, f)
+      go (passed q) f = absurd (true≢false (sym is ∙ reply-no-error (after unpowered ms) a (told ms) (held-as-told ms) (invariant-always ms) accepted q f))
+
+  -- "An error reply changes nothing but the emptied collection", of what is seen of it: no line is run, the outputs stay, and of the areas the
+  -- reply alone is written, at the start of its own. E024 is such an error.
+  pub error-seen : isError (reply (seen ms (ending a))) ≡ true → let s = seen ms (ending a) in
+      (s .areas ≡ withOut (over (reply s) (a .out)) a) × (s .lines ≡ 0) × (s .outputs ≡ outputs ms)
+  unfolding seen outputs outcome
+  error-seen is =
+      let h = after unpowered ms in
+      let x = found-error is in
+      let same = error-changes-nothing (h .state) a (x .0) (eqb-true _ 0 accepted) (x .1) in
+      let told-reply = reply-is h a accepted ∙ ap (λ r. replyOf r (h .state) a) (x .1) in (
+        ap (λ (y : After). y .areas) same ∙ ap (λ r. withOut (over r (a .out)) a) (sym told-reply),
+        ap (λ (y : After). y .lines) same,
+        ap (λ (y : After). y .state .run .outputs) same,
+      )
+
+  -- And the history says what it said before, with nothing received: the addresses that I and D go by stay. This is said of the history, whatever
+  -- box it is of; that the box holds what the history says is `held-as-told`, and the next read shows it (`reads-as-told`).
   pub error-leaves : isError (reply (seen ms (ending a))) ≡ true → told (ms ++ (ending a ∷ [])) ≡ toldWire (told ms .nextRead) (told ms .nextWrite) [] (told ms)
   unfolding seen tellAll notes afterwards toldWire
   error-leaves is =

@@ -3,14 +3,14 @@
 -- Assumes nothing.
 use mathlib.Core.Path.{_≡_, refl, sym, ap, _∙_}
 use Prim.Native.Nat.{ℕ, _≤_}
-use mathlib.Core.Bool.{Bool, true, false}
+use mathlib.Core.Bool.{true, false}
 use mathlib.Core.List.{List, _++_}
 use Rattle.formats.specs.Checks.{Res, refused, passed, _>>=_, text}
-use Rattle.variables.specs.Variables.{isBadAt}
 use Rattle.wire.specs.declared.Asked.{Asked}
 use Rattle.wire.specs.declared.Asked.the-variants.{Read, Write}
 use Rattle.wire.specs.Naming.{Names}
 use Rattle.wire.proofs.Commands.{read-asked}
+use Rattle.formats.specs.Digits.{errorText}
 use Rattle.controller.specs.declared.Controller.{Controller}
 use Rattle.controller.specs.Controller.{Areas, mode}
 use Rattle.controller.specs.Deeds.{ended, legible, asked}
@@ -21,7 +21,7 @@ use Rattle.demands.specs.Seen.{isTaken, reply, seen}
 use Rattle.demands.specs.Told.{Told, told}
 use Rattle.demands.specs.ReadBack.{Arrives}
 use Rattle.demands.specs.Formats.{InFormat}
-use Rattle.demands.specs.Replies.{checksOf, commandOf, panelOf, shown, replyTo}
+use Rattle.demands.specs.Replies.{commandOf, panelOf, shown, isBadThen, replyTo}
 use Rattle.demands.proofs.Formats.{value-in-format}
 use Rattle.demands.proofs.Agrees.{Agrees}
 use Rattle.demands.proofs.Heard.{reply-is}
@@ -38,7 +38,7 @@ pub answer-as-told : (t : Told) (c : Controller) → Agrees t c → (a : Areas) 
     ≡ replyTo (commandOf t (a .program)) t (a .program)
 answer-as-told t c g a = reply-as-told t c g (asked c (a .program)) a ∙ ap (λ r. replyTo r t (a .program)) (asked-as-told t c g (a .program))
 
--- The reply to every command is what the seven checks and the table of variables make of what the history says.
+-- The reply to every command is what the seven checks, the one for a Bad line and the table of variables make of what the history says.
 pub replies-as-told : (ms : List Made) (a : Areas) → isTaken (seen ms (ending a)) ≡ true
     → reply (seen ms (ending a)) ≡ replyTo (commandOf (told ms) (a .program)) (told ms) (a .program)
 unfolding seen
@@ -47,21 +47,13 @@ replies-as-told ms a taken =
     let g = held-as-told ms in
     reply-is (after unpowered ms) a taken ∙ answer-as-told (told ms) c g a
 
--- a read that passes the checks is answered with what the variable shows, or with E024
-read-shows : (t : Told) (program : List ℕ) (k : ℕ) → replyTo (passed (Read k) >>= legible (isBadAt (panelOf t) program)) t program ≡ ended (shown t program k)
-read-shows t program k = go (isBadAt (panelOf t) program k) refl
-  where
-    go : (b : Bool) → isBadAt (panelOf t) program k ≡ b
-        → replyTo (passed (Read k) >>= legible (isBadAt (panelOf t) program)) t program ≡ ended (shown t program k)
-    go true e = rw (read-illegible (isBadAt (panelOf t) program) k e, e)
-    go false e = rw (read-stays (isBadAt (panelOf t) program) k e, e)
-
--- A read of every address, by three digits, I or D, is answered with what the history says of it, in the format of that address; or with E024,
--- where a Bad line stands there.
+-- A read of every address, by three digits, I or D, is answered with what the history says of it, in the format of that address; but where a Bad
+-- line stands there, with E024.
 pub reads-as-told : (ms : List Made) (a : Areas) (k : ℕ) → k ≤ 216
     → (address : List ℕ) → Arrives (told ms) (text "CR" ++ address) → Names (told ms .nextRead) k address → isTaken (seen ms (ending a)) ≡ true
     → let t = told ms in
-    (reply (seen ms (ending a)) ≡ ended (shown t (a .program) k)) × (isBadAt (panelOf t) (a .program) k ≡ false → InFormat k (shown t (a .program) k))
+    (isBadThen t (a .program) k ≡ false → (reply (seen ms (ending a)) ≡ ended (shown t (a .program) k)) × InFormat k (shown t (a .program) k))
+    × (isBadThen t (a .program) k ≡ true → reply (seen ms (ending a)) ≡ ended (errorText 24))
 reads-as-told ms a k inside address arrived named taken =
     let t = told ms in
     let c = after unpowered ms .state in
@@ -69,8 +61,13 @@ reads-as-told ms a k inside address arrived named taken =
     let short = arrives-short t c g _ arrived (read-length named) in
     let reads = read-asked (c .wire) (mode c) (c .panel .parameter) short k address inside (arrives-sent t c g _ arrived short)
     (rw (g .wire .nextRead) named) in
-    let asks : checksOf t ≡ passed (Read k) = sym (checks-as-told t c g) ∙ reads in (
-      replies-as-told ms a taken
-          ∙ ap (λ r. replyTo (r >>= legible (isBadAt (panelOf t) (a .program))) t (a .program)) asks ∙ read-shows t (a .program) k,
-      λ good. rw good (value-in-format (panelOf t) (t .run) (t .paused) (a .program) k inside good),
+    let asks : commandOf t (a .program) ≡ (passed (Read k) >>= legible (isBadThen t (a .program))) =
+    ap (λ r. r >>= legible (isBadThen t (a .program))) (sym (checks-as-told t c g) ∙ reads) in
+    let replies : (r : Res Asked) → (passed (Read k) >>= legible (isBadThen t (a .program))) ≡ r → reply (seen ms (ending a)) ≡ replyTo r t (a .program) =
+    λ r e. replies-as-told ms a taken ∙ ap (λ x. replyTo x t (a .program)) (asks ∙ e) in (
+      λ good. (
+        replies (passed (Read k)) (read-stays (isBadThen t (a .program)) k good),
+        value-in-format (panelOf t) (t .run) (t .paused) (a .program) k inside good,
+      ),
+      λ bad. replies (refused 24) (read-illegible (isBadThen t (a .program)) k bad),
     )

@@ -18,7 +18,6 @@ use Rattle.special.specs.declared.Mode.{Mode}
 use Rattle.special.specs.declared.Mode as M
 use Rattle.special.proofs.Quiet.{runs-mode}
 use Rattle.special.specs.Special.{modeOf}
-use Rattle.variables.specs.Variables as Variables
 use Rattle.wire.specs.declared.Data.{Data}
 use Rattle.wire.specs.declared.Asked.the-variants.{Write}
 use Rattle.wire.specs.Collecting.{mostChars, capital}
@@ -36,7 +35,7 @@ use Rattle.demands.specs.Histories.{ending, Made, unpowered, after}
 use Rattle.demands.specs.Seen.{isTaken, reply, seen}
 use Rattle.demands.specs.Told.{told}
 use Rattle.demands.specs.ReadBack.{Arrives}
-use Rattle.demands.specs.Replies.{wireOf, checksOf, panelOf, replyTo}
+use Rattle.demands.specs.Replies.{wireOf, checksOf, isBadThen, replyTo}
 use Rattle.demands.specs.Specials.{due, dueThen, okOr}
 use Rattle.demands.specs.Errors.{kept}
 use Rattle.demands.proofs.Heard.{reply-is}
@@ -112,7 +111,7 @@ module _ (ms : List Made) (a : Areas) (address written : List ℕ) (arrived : Ar
       let b = named-length named in
       let c = length-append address written in
       replies-as-told ms a accepted
-      ∙ ap (λ r. replyTo (r >>= legible (Variables.isBadAt (panelOf t) (a .program))) t (a .program))
+      ∙ ap (λ r. replyTo (r >>= legible (isBadThen t (a .program))) t (a .program))
       (odd (kept t) (wireOf t) (modeOf (t .run .on) (t .paused)) (t .parameter) (omega arith) (rw over))
       ∙ sym (ap (λ r. ended (okOr (r >>= due (t .run .on) (t .paused) (t .parameter)))) (d-not-three written (λ z. omega arith)))
 

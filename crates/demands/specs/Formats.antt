@@ -1,4 +1,4 @@
--- What a reply to a read looks like. 01, 'Variables', its column 'Format'; 'The wire': "Formats: h is two hex digits, d three decimal
+-- What a reply to a read looks like that is no error. 01, 'Variables', its column 'Format'; 'The wire': "Formats: h is two hex digits, d three decimal
 -- digits to 255, 2d four decimal digits to 9999." That d is at most 255 is not said here.
 use Prim.Native.Nat.{ℕ, _≤_}
 use mathlib.Core.Path.{_≡_}

@@ -9,7 +9,6 @@ use Rattle.formats.specs.Checks.{if_then_else_, Res, refused, passed, _>>=_, te
 use Rattle.formats.specs.Digits.{errorText}
 use Rattle.lines.specs.Line.{bytesOf}
 use Rattle.variables.specs.declared.Panel.{Panel}
-use Rattle.running.specs.declared.Run.{Run}
 use Rattle.variables.specs.Variables.{isBadAt, value}
 use Rattle.special.specs.Special.{modeOf}
 use Rattle.wire.specs.declared.Wire.{Wire}
@@ -34,22 +33,22 @@ checksOf t = commandIn (map capital (take mostChars (t .received))) (wireOf t) (
 abbrev pub panelOf : Told → Panel
 panelOf t = record { single = bytesOf (t .single); parameter = t .parameter; special = t .special; event = t .event; unread = not (eqb (t .event) 0) }
 
+-- what a read of address k shows, of a box that is lent this program
+abbrev pub shown : Told → List ℕ → ℕ → List ℕ
+shown t program k = value (panelOf t) (t .run) (t .paused) program k
+
+-- a Bad line stands at address k
+abbrev pub isBadThen : Told → List ℕ → ℕ → Bool
+isBadThen t program k = isBadAt (panelOf t) program k
+
 -- what they ask for of a box that is lent this program: 02, item 4, a read of a Bad line is E024, behind the seven checks
 abbrev pub commandOf : Told → List ℕ → Res Asked
-commandOf t program = checksOf t >>= legible (isBadAt (panelOf t) program)
-
--- what a read of address k is answered, where these are the panel, the run, whether it is paused, and the program lent
-abbrev pub readAs : Panel → Run → Bool → List ℕ → ℕ → List ℕ
-readAs panel run paused program k = if isBadAt panel program k then errorText 24 else value panel run paused program k
-
--- of what the history says
-abbrev pub shown : Told → List ℕ → ℕ → List ℕ
-shown t program k = readAs (panelOf t) (t .run) (t .paused) program k
+commandOf t program = checksOf t >>= legible (isBadThen t program)
 
 -- "Errors are E and three digits." "An accepted write answers OK."
 abbrev pub replyTo : Res Asked → Told → List ℕ → List ℕ
 replyTo (refused e) t program = ended (errorText e)
-replyTo (passed (Read k)) t program = ended (value (panelOf t) (t .run) (t .paused) program k)
+replyTo (passed (Read k)) t program = ended (shown t program k)
 replyTo (passed (Write k x)) t program = ended (text "OK")
 
 -- 01, 'Calls and what is lent': "A byte that completes no command has a reply of length 0"; nor has a tick, a press or a power-on one

@@ -18,7 +18,7 @@ sound =
     ++ (eight 0x4E 1 0 0 0 0 0 0
     ++ (eight 0x4E 4 0 0 0 0 0 0 ++ eight 0x53 0 0 0 0 5 1 0)))))
 
--- Twenty that are Bad: time or count 10,000, another first byte, a second that is not 00 or 1-4, a byte that must be 0.
+-- Twenty-four that are Bad: time or count 10,000, another first byte, a second that is not 00 or 1-4, a byte that must be 0.
 abbrev pub bad : List ℕ
 bad =
     eight 0x53 0 1 2 3 4 0x27 0x10
@@ -37,8 +37,12 @@ bad =
     ++ (eight 0x4E 0 0 0 0 0 0 0
     ++ (eight 0x4E 5 0 0 0 0 0 0
     ++ (eight 0x4E 1 1 0 0 0 0 0
+    ++ (eight 0x4E 1 0 1 0 0 0 0
+    ++ (eight 0x4E 1 0 0 1 0 0 0
+    ++ (eight 0x4E 1 0 0 0 1 0 0
+    ++ (eight 0x4E 1 0 0 0 0 1 0
     ++ (eight 0x4E 1 0 0 0 0 0 1
-    ++ (eight 0x4D 1 0 0 0 0 0 0 ++ (eight 0x4F 1 0 0 0 0 0 0 ++ eight 0 0 0 0 0 0 0 0))))))))))))))))))
+    ++ (eight 0x4D 1 0 0 0 0 0 0 ++ (eight 0x4F 1 0 0 0 0 0 0 ++ eight 0 0 0 0 0 0 0 0))))))))))))))))))))))
 
 unfoldable pub variables : List Point
 variables =
@@ -93,7 +97,7 @@ variables =
     ∷ []
     )
     -- power-on and command 007 load the saved copy, and "Load and save copy the bytes unaltered"; the copy stays as it was
-    ∷ withCopy 27 (sound ++ bad) (
+    ∷ withCopy 31 (sound ++ bad) (
     holds program 0 (sound ++ (bad ++ endMark))
     ∷ holds program 1592 endMark
     ∷ holds saved 0 (sound ++ bad)
@@ -106,17 +110,18 @@ variables =
     ∷ "CR200^CR206^CR209^CR210^CR211^CR212^" ⇒ "N3^55^007^007^000^012^"
     ∷ []
     )
-    -- "Reading eight bytes now answers State, For, Next or Bad": each of the twenty is E024, and so is none of the lines beside them
+    -- "Reading eight bytes now answers State, For, Next or Bad": each of the twenty-four is E024, and so is none of the lines beside them
     ∷ point (
     alters program 0 bad
     ∷ alters program 1592 (eight 0x46 3 0 7 0 0 0 0)
     ∷ "CR000^CR001^CR002^CR003^CR004^CR005^CR006^CR007^CR008^CR009^" ⇒ "E024^E024^E024^E024^E024^E024^E024^E024^E024^E024^"
     ∷ "CR010^CR011^CR012^CR013^CR014^CR015^CR016^CR017^CR018^CR019^" ⇒ "E024^E024^E024^E024^E024^E024^E024^E024^E024^E024^"
-    ∷ "CR020^CR199^CR200^" ⇒ "S00000000000000^F30007^S00000000000000^"
+    ∷ "CR020^CR021^CR022^CR023^" ⇒ "E024^E024^E024^E024^"
+    ∷ "CR024^CR199^CR200^" ⇒ "S00000000000000^F30007^S00000000000000^"
     -- "Executing one by 006 does nothing and answers OK": 210 takes it, and outputs, line and event stay
     ∷ "CW20655^CW210006^CR206^CR210^CR211^CR212^" ⇒ "OK^OK^55^006^000^012^"
     -- "Running a Bad line stops with event 014 at that line"
-    ∷ "CW209019^CW210005^CR206^CR211^CR201^CR212^" ⇒ "OK^OK^55^019^80^014^"
+    ∷ "CW209023^CW210005^CR206^CR211^CR201^CR212^" ⇒ "OK^OK^55^023^80^014^"
     -- the bytes are saved as they are, and come back so
     ∷ "CW210008^CR210^" ⇒ "OK^008^"
     ∷ holds program 0 bad

@@ -117,6 +117,16 @@ Sets P (For counter count) = Unit {0}
 Sets P (Next counter) = Unit {0}
 Sets P Bad = Unit {0}
 
+-- "006 sets the outputs of a State line and ignores its time", and a line that sets none leaves them
+pub sets-own : (o t before : ℕ) → setBy (State o t) before ≡ o
+sets-own o t before = refl
+
+pub sets-none : (l : Line) (before : ℕ) → Sets (λ _. ⊥) l → setBy l before ≡ before
+sets-none (State o t) before none = absurd none
+sets-none (For c n) before none = refl
+sets-none (Next c) before none = refl
+sets-none Bad before none = refl
+
 -- what holds of those that stood and of those that a line sets holds after it is executed
 pub set-by : (P : ℕ → Type 0) (l : Line) (o : ℕ) → Sets P l → P o → P (setBy l o)
 set-by P (State outputs time) o s h = s

@@ -114,7 +114,7 @@ pub fn line_at(p: &[u8], k: usize) -> Line
     read_line(&p[8 * k..])
 }
 
-// A line that is none.
+// Whether a line is Bad.
 pub fn is_bad(l: Line) -> bool
     ensures test { λ r. ⌜ r ≡ isBad l ⌝ }
 {

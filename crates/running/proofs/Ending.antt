@@ -1,4 +1,4 @@
--- A start or a tick runs at most 400 For and Next lines, and it raises an event exactly if it ends the program.
+-- A start or a tick runs at most 400 For and Next lines, it raises an event exactly if it ends the program, and 011 and 014 say at what line.
 -- Assumes nothing.
 use Prim.Native.Nat.{ℕ, zero, suc, _+_, _≤_}
 use native.Mathlib.Omega.{arith}
@@ -18,6 +18,7 @@ use Rattle.running.specs.declared.Step.{Step}
 use Rattle.running.specs.declared.Ran.{Ran}
 use Rattle.running.specs.Running.{allFree, stopped, holds, ends, onward, runLine, isForOrNext}
 use Rattle.running.specs.Running.{counted, stops, rests, isHeld, follow, step, runDue, most, start, tick}
+use Rattle.running.specs.Ended.{Ended}
 use Rattle.running.proofs.Ways.{onward-ways, state-ways, for-ways, next-ways, bad-way}
 use Rattle.running.proofs.Turns.{counted-one}
 
@@ -132,11 +133,6 @@ tick-told p r on =
 
 -- ---- what an end says of the line at which it came
 
--- 02, item 4: a Bad line "must not look like an end": 011 comes at a State with time 0 alone, whose outputs then stand, and 014 at a Bad line.
-pub record Ended (p : List ℕ) (event : ℕ) (r : Run) : Type 0 where
-  pub well : event ≡ 11 → lineAt p (r .line) ≡ State (r .outputs) 0
-  pub badly : event ≡ 14 → lineAt p (r .line) ≡ Bad
-
 -- neither of the two
 other-end : (p : List ℕ) (e : ℕ) (r : Run) → e ≢ 11 → e ≢ 14 → Ended p e r
 other-end p e r a b = record { well = λ z. absurd (a z); badly = λ z. absurd (b z) }
@@ -173,37 +169,37 @@ module _ (p : List ℕ) (r : Run) where
   step-ends = line-ends (lineAt p (r .line)) refl
 
 -- a call
-abbrev pub EndsWell : List ℕ → Ran → Type 0
-EndsWell p x = Ended p (x .event) (x .run)
+abbrev pub EndsAsItSays : List ℕ → Ran → Type 0
+EndsAsItSays p x = Ended p (x .event) (x .run)
 
-no-end : (p : List ℕ) (n : ℕ) (r : Run) → EndsWell p (rests n r)
+no-end : (p : List ℕ) (n : ℕ) (r : Run) → EndsAsItSays p (rests n r)
 no-end p n r = other-end p 0 r (λ z. omega arith) (λ z. omega arith)
 
-stopped-ends : (p : List ℕ) (e n : ℕ) (r : Run) → Ended p e r → EndsWell p (stops e n r)
+stopped-ends : (p : List ℕ) (e n : ℕ) (r : Run) → Ended p e r → EndsAsItSays p (stops e n r)
 unfolding stopped
 stopped-ends p e n r h = record { well = h .well; badly = h .badly }
 
-follow-ends : (p : List ℕ) (h : How) (n : ℕ) (r : Run) (go : Run → Ran) → ((e : ℕ) → h ≡ Ends e → Ended p e r) → ((s : Run) → EndsWell p (go s))
-    → EndsWell p (follow h n r go)
+follow-ends : (p : List ℕ) (h : How) (n : ℕ) (r : Run) (go : Run → Ran) → ((e : ℕ) → h ≡ Ends e → Ended p e r) → ((s : Run) → EndsAsItSays p (go s))
+    → EndsAsItSays p (follow h n r go)
 follow-ends p Holds n r go ends k = no-end p n r
 follow-ends p (Ends e) n r go ends k = stopped-ends p e n r (ends e refl)
 follow-ends p GoesOn n r go ends k = k r
 
-due-ends-so : (p : List ℕ) (left n : ℕ) (r : Run) → EndsWell p (runDue p left n r)
+due-ends-so : (p : List ℕ) (left n : ℕ) (r : Run) → EndsAsItSays p (runDue p left n r)
 unfolding runDue
 due-ends-so p zero n r =
-    if-case (EndsWell p) (isForOrNext (lineAt p (r .line))) (λ _. stopped-ends p 13 n r (other-end p 13 r (λ z. omega arith) (λ z. omega arith)))
+    if-case (EndsAsItSays p) (isForOrNext (lineAt p (r .line))) (λ _. stopped-ends p 13 n r (other-end p 13 r (λ z. omega arith) (λ z. omega arith)))
     (λ _. follow-ends p (step p r .how) n (step p r .run) _ (step-ends p r) (λ s. no-end p n s))
 due-ends-so p (suc left) n r = follow-ends p (step p r .how) _ (step p r .run) _ (step-ends p r) (λ s. due-ends-so p left _ s)
 
 -- A start and a tick that end with 011 end at an end mark, and with 014 at a Bad line.
-pub start-ends : (p : List ℕ) (k o : ℕ) → EndsWell p (start p k o)
+pub start-ends : (p : List ℕ) (k o : ℕ) → EndsAsItSays p (start p k o)
 unfolding start
 start-ends p k o = due-ends-so p most 0 _
 
-pub tick-ends-so : (p : List ℕ) (r : Run) → EndsWell p (tick p r)
+pub tick-ends-so : (p : List ℕ) (r : Run) → EndsAsItSays p (tick p r)
 unfolding tick
 tick-ends-so p r =
-    if-case (EndsWell p) (not (r .on)) (λ _. no-end p 0 r) λ _.
-    if-case (EndsWell p) (isHeld r) (λ _. no-end p 0 _) λ _.
+    if-case (EndsAsItSays p) (not (r .on)) (λ _. no-end p 0 r) λ _.
+    if-case (EndsAsItSays p) (isHeld r) (λ _. no-end p 0 _) λ _.
     follow-ends p (onward r .how) 0 (onward r .run) _ (onward-ends p r) (λ s. due-ends-so p most 0 s)

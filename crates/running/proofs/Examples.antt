@@ -106,16 +106,18 @@ examples =
     -- 20 and 21: a Bad line first, and on line 199: 014 there, the outputs stay, no line is counted
     ∷ these (Bad ∷ State 0 0 ∷ []) startedAt 0 gives ((0 ∷ 0 ∷ 0 ∷ 0 ∷ 14 ∷ 0 ∷ []) ∷ (0 ∷ 0 ∷ 0 ∷ 0 ∷ 0 ∷ 0 ∷ []) ∷ [])
     ∷ (replicate 1584 0 ++ bytesOf (State 5 1)) startedAt 198 gives ((1 ∷ 5 ∷ 198 ∷ 0 ∷ 0 ∷ 0 ∷ []) ∷ (0 ∷ 5 ∷ 199 ∷ 0 ∷ 14 ∷ 0 ∷ []) ∷ [])
-    -- 22 and 23: in a loop, whose counter is freed; and after exactly 400 lines, where it is no 401st
+    -- 22 and 23: in a loop, whose For found its Next behind it and whose counter is freed; and after exactly 400 lines, where it is no 401st
     ∷ these (For 1 3 ∷ State 5 1 ∷ Bad ∷ Next 1 ∷ State 0 0 ∷ [])
     startedAt 0
     gives ((1 ∷ 5 ∷ 1 ∷ 3 ∷ 0 ∷ 1 ∷ []) ∷ (0 ∷ 5 ∷ 2 ∷ 0 ∷ 14 ∷ 0 ∷ []) ∷ [])
     ∷ these (For 1 399 ∷ Next 1 ∷ Bad ∷ []) startedAt 0 gives ((0 ∷ 0 ∷ 2 ∷ 0 ∷ 14 ∷ 400 ∷ []) ∷ [])
-    -- 24 and 25: the search for a Next passes over it, to take the counter and to pass on; a damaged Next is none
+    -- 24 and 25: a loop of none passes over it; a damaged Next is none
     ∷ these (For 1 1 ∷ State 6 1 ∷ Next 1 ∷ For 1 0 ∷ Bad ∷ Next 1 ∷ State 7 0 ∷ [])
     startedAt 0
     gives ((1 ∷ 6 ∷ 1 ∷ 1 ∷ 0 ∷ 1 ∷ []) ∷ (0 ∷ 7 ∷ 6 ∷ 0 ∷ 11 ∷ 2 ∷ []) ∷ [])
-    ∷ these (For 1 2 ∷ State 6 1 ∷ Bad ∷ State 7 0 ∷ []) startedAt 0 gives ((0 ∷ 0 ∷ 0 ∷ 0 ∷ 7 ∷ 1 ∷ []) ∷ [])
+    ∷ (these (For 1 2 ∷ State 6 1 ∷ []) ++ (0x4E ∷ 1 ∷ 0 ∷ 0 ∷ 0 ∷ 0 ∷ 0 ∷ 1 ∷ []) ++ bytesOf (State 7 0))
+    startedAt 0
+    gives ((0 ∷ 0 ∷ 0 ∷ 0 ∷ 7 ∷ 1 ∷ []) ∷ [])
     ∷ []
 
 running-examples : failing 1 examples ≡ []

@@ -1,7 +1,7 @@
 -- Laws of the steps, line by line: how long a State line is held, and to what each For, each Next and a Bad line leads, case by case.
 -- Assumes nothing.
 use mathlib.Core.Path.{_≡_, ap, _∙_}
-use Prim.Native.Nat.{ℕ, zero, suc, _+_, _-_, _<_}
+use Prim.Native.Nat.{ℕ, zero, suc, _+_, _-_, _≤_, _<_}
 use native.Mathlib.Omega.{arith}
 use mathlib.Core.Bool.{true}
 use mathlib.Core.List.{List}
@@ -65,6 +65,12 @@ pub bad-line : (p : List ℕ) (r : Run) → lineAt p (r .line) ≡ Bad → (left
 unfolding runDue step runLine
 bad-line p r line zero n = rw line
 bad-line p r line (suc left) n = let none : n + 0 ≡ n = omega arith in rw (line, none)
+
+-- Where it falls due on a tick: the outputs stay, and no line is counted.
+pub bad-due : (p : List ℕ) (r : Run) → r .on ≡ true → r .wait ≤ 1 → r .line < 199 → lineAt p (r .line + 1) ≡ Bad
+    → tick p r ≡ stops 14 0 (atLine (r .line + 1) r)
+unfolding onward
+bad-due p r on due before bad = due-at p r on due ∙ rw (lt-ltb (r .line) 199 before) (bad-line p (atLine (r .line + 1) r) bad most 0)
 
 -- ---- what is counted
 

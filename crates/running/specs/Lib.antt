@@ -1,2 +1,3 @@
 pub mod Running
 pub mod Invariant
+pub mod Ended
