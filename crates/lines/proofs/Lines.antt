@@ -43,12 +43,12 @@ read-ranged bs =
     (λ e. record { range = leb-true (field 6 2 bs) 9999 (both-true (eqb first 0x53 && eqb second 0) (leb (field 6 2 bs) 9999) e .1) }) λ _.
     if-case Ranged (isFor bs)
     (λ e.
-    let p = both-true (eqb first 0x46 && isCounter second && leb (field 2 2 bs) 9999) (eqb (field 4 4 bs) 0) e in
+    let p = both-true (eqb first 0x46 && isCounter second && leb (field 2 2 bs) 9999) _ e in
     let q = both-true (eqb first 0x46 && isCounter second) (leb (field 2 2 bs) 9999) (p .0) in
     for-ranged (both-true (eqb first 0x46) (isCounter second) (q .0) .1) (leb-true (field 2 2 bs) 9999 (q .1))) λ _.
     if-case Ranged (isNext bs)
     (λ e.
-    let p = both-true (eqb first 0x4E && isCounter second) (eqb (field 2 6 bs) 0) e in
+    let p = both-true (eqb first 0x4E && isCounter second) _ e in
     record { range = both-true (eqb first 0x4E) (isCounter second) (p .0) .1 }) λ _.
     record { range = tt }
 
