@@ -110,7 +110,7 @@ variables =
     ∷ "CR200^CR206^CR209^CR210^CR211^CR212^" ⇒ "N3^55^007^007^000^012^"
     ∷ []
     )
-    -- "Reading eight bytes now answers State, For, Next or Bad": each of the twenty-four is E024, and so is none of the lines beside them
+    -- "Reading eight bytes now answers State, For, Next or Bad": each of the twenty-four is E024, and none of the lines beside them is
     ∷ point (
     alters program 0 bad
     ∷ alters program 1592 (eight 0x46 3 0 7 0 0 0 0)
