@@ -40,7 +40,7 @@ use Rattle.controller.proofs.Alterations.{collect-is}
 use Rattle.controller.proofs.Refusals.{Checked}
 use Rattle.demands.specs.Said.{Said, silence, reads, writesLine, writesOutputs, writesParameter, gives}
 use Rattle.demands.specs.Told.{Told, afterwards}
-use Rattle.demands.proofs.Collects.{byte-collects}
+use Rattle.demands.proofs.Collects.{nothing-collected, byte-collects}
 use Rattle.demands.proofs.Agrees.{Agrees, Hears, anError, aRead, aLine, anOutput, aParameter, aSpecial, as-told}
 use Rattle.demands.proofs.Agrees.{toldEvent, toldRun, toldWire, toldPanel, toldMoved, toldTicks, event-agrees, raise-agrees, run-agrees, wire-agrees}
 use Rattle.demands.proofs.Agrees.{panel-agrees, ticks-agrees, log-agrees, moved-agrees, execute-agrees, named-line}
@@ -51,14 +51,14 @@ module _ (t : Told) (c : Controller) (a : Areas) (g : Agrees t c) where
   error-agrees : (e : ℕ) → Agrees (afterwards (byte 13) silence a t) (answer (refused e) c a .state)
   unfolding afterwards answer writing toldWire
   error-agrees e =
-      wire-agrees t c g (cleared (c .wire)) (t .nextRead) (t .nextWrite) [] (g .wire .nextRead) (g .wire .nextWrite) (record { first = refl; more = refl })
+      wire-agrees t c g (cleared (c .wire)) (t .nextRead) (t .nextWrite) [] (g .wire .nextRead) (g .wire .nextWrite) (nothing-collected _ (record { none = refl; short = refl }))
 
   read-agrees : (k : ℕ) → Agrees (afterwards (byte 13) (reads k) a t) (answer (passed (Read k)) c a .state)
   unfolding afterwards answer writing toldWire toldEvent
   read-agrees k = go (eqb k 212) refl
     where
       done : Agrees (toldWire (k + 1) (t .nextWrite) [] t) (withWire (Collecting.readTo k (cleared (c .wire))) c)
-      done = wire-agrees t c g _ (k + 1) (t .nextWrite) [] refl (g .wire .nextWrite) (record { first = refl; more = refl })
+      done = wire-agrees t c g _ (k + 1) (t .nextWrite) [] refl (g .wire .nextWrite) (nothing-collected _ (record { none = refl; short = refl }))
 
       go : (b : Bool) → eqb k 212 ≡ b → Agrees (afterwards (byte 13) (reads k) a t) (answer (passed (Read k)) c a .state)
       go true e = rw e (event-agrees _ _ done 0 false refl)
@@ -67,7 +67,7 @@ module _ (t : Told) (c : Controller) (a : Areas) (g : Agrees t c) where
   -- a write moves its direction's address, and leaves the rest to its data
   wrote-agrees : (k : ℕ) → Agrees (toldWire (t .nextRead) (k + 1) [] t) (wroteTo k (emptyCollection c))
   wrote-agrees k =
-      wire-agrees t c g (Collecting.wroteTo k (cleared (c .wire))) (t .nextRead) (k + 1) [] (g .wire .nextRead) refl (record { first = refl; more = refl })
+      wire-agrees t c g (Collecting.wroteTo k (cleared (c .wire))) (t .nextRead) (k + 1) [] (g .wire .nextRead) refl (nothing-collected _ (record { none = refl; short = refl }))
 
   line-agrees : (k : ℕ) (l : Line) → Fits l → Agrees (afterwards (byte 13) (writesLine k l) a t) (answer (passed (Write k (WriteLine l))) c a .state)
   unfolding afterwards answer writing write toldWire toldPanel

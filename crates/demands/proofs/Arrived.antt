@@ -35,7 +35,7 @@ panel-as-told t c g =
 
 -- what the seven checks make of the characters is what they make of those that the history says
 pub checks-as-told : (t : Told) (c : Controller) → Agrees t c → command (c .wire) (mode c) (c .panel .parameter) ≡ checksOf t
-unfolding command commandIn checksOf sent
+unfolding command commandIn checksOf
 checks-as-told t c g =
     rw (g .wire .received .first, g .wire .received .more, g .wire .nextRead, g .wire .nextWrite, g .panel .parameter, g .run, g .paused)
 

@@ -1,33 +1,38 @@
--- Laws of the wire: it keeps the first 32 of the characters received, and is overlong exactly if there were more.
+-- Laws of the wire: it keeps the first 32 of the characters received, in capitals, and is overlong exactly if there were more.
 -- Assumes nothing.
 use mathlib.Core.Path.{_≡_, refl, sym, ap, _∙_}
 use Prim.Native.Nat.{ℕ, _+_, _≤_, _<_}
 use native.Mathlib.Omega.{arith}
 use mathlib.Core.Bool.{Bool, true, false}
 use mathlib.Core.List.{List, [], _∷_, _++_, map}
-use lib.ListN.{length, take, length-append, length-take}
+use lib.ListN.{length, take, length-append, length-take, length-map}
 use lib.Seq.{take-append-le, take-all, length-take-le}
 use lib.Dec.{eqb, ltb}
 use borrow.Author.Tests.{ltb-true, ltb-false, lt-ltb, le-ltb}
 use Rattle.formats.specs.Checks.{if_then_else_}
+use Rattle.formats.proofs.Loops.{map-snoc}
 use Rattle.wire.specs.declared.Wire.{Wire}
 use Rattle.wire.specs.Collecting.{mostChars, collect, capital, sent}
 use Rattle.wire.specs.Invariant.{WireInvariant}
-use Rattle.wire.proofs.Collecting.{collected, kept-last, kept-short, kept-none, space-dropped}
+use Rattle.wire.proofs.Collecting.{kept-last, kept-short, overlong-sent, kept-none, space-dropped}
 use Rattle.controller.proofs.Wires.{Empty}
 
 -- the wire holds the characters cs
 pub record Collects (cs : List ℕ) (w : Wire) : Type 0 where
-  pub first : collected w ≡ take mostChars cs
+  pub first : sent w ≡ map capital (take mostChars cs)
   pub more : w .overlong ≡ ltb mostChars (length cs)
 
 pub nothing-collected : (w : Wire) → Empty w → Collects [] w
+unfolding sent
 nothing-collected w e = record { first = ap (λ n. take n (w .chars)) (e .none); more = e .short }
 
 module _ (cs : List ℕ) (w : Wire) (i : WireInvariant w) (h : Collects cs w) where
   -- as many are kept as fit
   kept-length : w .len ≡ length (take mostChars cs)
-  kept-length = sym (length-take-le (w .len) (w .chars) (omega (arith, i .whole, i .fits))) ∙ ap (λ (l : List ℕ). length l) (h .first)
+  unfolding sent
+  kept-length =
+      sym (length-take-le (w .len) (w .chars) (omega (arith, i .whole, i .fits))) ∙ ap (λ (l : List ℕ). length l) (h .first)
+      ∙ length-map (take mostChars cs) capital
 
   longer : (x : ℕ) → length (cs ++ (x ∷ [])) ≡ length cs + 1
   longer x = length-append cs (x ∷ [])
@@ -37,8 +42,8 @@ module _ (cs : List ℕ) (w : Wire) (i : WireInvariant w) (h : Collects cs w) wh
       let short : w .len < mostChars = omega (arith, kept-length, length-take mostChars cs) in
       record {
         first =
-            kept-last x w i other short ∙ ap (λ l. l ++ (x ∷ [])) (h .first ∙ take-all mostChars cs (omega arith))
-            ∙ sym (take-all mostChars (cs ++ (x ∷ [])) (omega (arith, longer x)));
+            kept-last x w i other short ∙ ap (λ l. l ++ (capital x ∷ [])) (h .first ∙ ap (map capital) (take-all mostChars cs (omega arith)))
+            ∙ sym (ap (map capital) (take-all mostChars (cs ++ (x ∷ [])) (omega (arith, longer x))) ∙ map-snoc capital cs x);
         more =
             kept-short x w other short ∙ h .more ∙ le-ltb mostChars (length cs) (omega arith)
             ∙ sym (le-ltb mostChars (length (cs ++ (x ∷ []))) (omega (arith, longer x)));
@@ -49,7 +54,7 @@ module _ (cs : List ℕ) (w : Wire) (i : WireInvariant w) (h : Collects cs w) wh
       let full : mostChars ≤ w .len = omega (arith, kept-length, length-take mostChars cs) in
       rw (kept-none x w other full)
       (record {
-        first = h .first ∙ sym (take-append-le mostChars cs (x ∷ []) le);
+        first = overlong-sent w ∙ h .first ∙ ap (map capital) (sym (take-append-le mostChars cs (x ∷ []) le));
         more = sym (lt-ltb mostChars (length (cs ++ (x ∷ []))) (omega (arith, longer x)));
       })
 
@@ -64,6 +69,5 @@ module _ (cs : List ℕ) (w : Wire) (i : WireInvariant w) (h : Collects cs w) wh
 
 -- a command that was not overlong is all that was received, in capitals
 pub sent-whole : (cs : List ℕ) (w : Wire) → Collects cs w → w .overlong ≡ false → sent w ≡ map capital cs
-unfolding sent
 sent-whole cs w h short =
-    ap (map capital) (h .first ∙ take-all mostChars cs (ltb-false mostChars (length cs) (sym (h .more) ∙ short)))
+    h .first ∙ ap (map capital) (take-all mostChars cs (ltb-false mostChars (length cs) (sym (h .more) ∙ short)))

@@ -20,6 +20,7 @@ use Rattle.demands.specs.Histories.{Made, Held, unpowered, isAccepted, n
 use Rattle.demands.specs.Seen.{note, notes}
 use Rattle.demands.specs.Told.{Told, powered, afterwards, said, tell, tellAll, told}
 use Rattle.demands.proofs.Steps.{deed, heldThen, Step, passes, fails, stepped, refused-held}
+use Rattle.demands.proofs.Collects.{nothing-collected}
 use Rattle.demands.proofs.Agrees.{Agrees, log-agrees}
 use Rattle.demands.proofs.Agreement.{does-agrees}
 use Rattle.demands.proofs.Heard.{hears}
@@ -33,7 +34,7 @@ fresh-agrees n = record {
   ticks = refl;
   run = refl;
   paused = refl;
-  wire = record { nextRead = refl; nextWrite = refl; received = record { first = refl; more = refl } };
+  wire = record { nextRead = refl; nextWrite = refl; received = nothing-collected _ (record { none = refl; short = refl }) };
   panel = record { single = refl; fits = (omega arith, omega arith); parameter = refl; special = refl; event = refl; unread = refl };
   logLength = refl;
 }

@@ -1,23 +1,19 @@
--- Laws of collecting: the invariant is kept, and what is kept is what was received.
+-- Laws of collecting: the invariant is kept, and what is kept is what was received, in capitals.
 -- Assumes nothing.
-use mathlib.Core.Path.{_≡_, _∙_}
+use mathlib.Core.Path.{_≡_, refl, _∙_}
 use Prim.Native.Nat.{ℕ, _≤_, _<_}
 use native.Mathlib.Omega.{arith}
 use mathlib.Core.Bool.{true, false}
-use mathlib.Core.List.{List, [], _∷_, _++_}
-use lib.ListN.{take, length-set}
+use mathlib.Core.List.{[], _∷_, _++_}
+use lib.ListN.{length-set}
 use lib.Seq.{take-suc-set}
 use lib.Dec.{eqb, ltb}
 use borrow.Author.Tests.{ltb-true, lt-ltb, le-ltb}
 use native.Mathlib.Numerals.{add-one}
 use Rattle.formats.proofs.Checks.{if-case}
 use Rattle.wire.specs.declared.Wire.{Wire}
-use Rattle.wire.specs.Collecting.{mostChars, tooLong, collect, cleared}
+use Rattle.wire.specs.Collecting.{mostChars, capital, tooLong, collect, cleared, sent}
 use Rattle.wire.specs.Invariant.{WireInvariant}
-
--- the characters kept
-abbrev pub collected : Wire → List ℕ
-collected w = take (w .len) (w .chars)
 
 pub collect-kept : (x : ℕ) (w : Wire) → WireInvariant w → WireInvariant (collect x w)
 unfolding collect
@@ -26,7 +22,7 @@ collect-kept x w i =
     if-case WireInvariant (ltb (w .len) mostChars)
     (λ e.
     record {
-      whole = length-set (w .chars) (w .len) x ∙ i .whole;
+      whole = length-set (w .chars) (w .len) (capital x) ∙ i .whole;
       fits = omega (arith, ltb-true (w .len) mostChars e);
       nextRead = i .nextRead;
       nextWrite = i .nextWrite;
@@ -36,19 +32,23 @@ collect-kept x w i =
 pub cleared-kept : (w : Wire) → WireInvariant w → WireInvariant (cleared w)
 cleared-kept w i = record { whole = i .whole; fits = omega arith; nextRead = i .nextRead; nextWrite = i .nextWrite }
 
--- A character for which there is room stands behind those kept before, as received.
-pub kept-last : (x : ℕ) (w : Wire) → WireInvariant w → eqb x 32 ≡ false → w .len < mostChars → collected (collect x w) ≡ collected w ++ (x ∷ [])
-unfolding collect
+-- A character for which there is room stands behind those kept before, as a capital.
+pub kept-last : (x : ℕ) (w : Wire) → WireInvariant w → eqb x 32 ≡ false → w .len < mostChars → sent (collect x w) ≡ sent w ++ (capital x ∷ [])
+unfolding collect sent
 kept-last x w i other lt =
     rw (other, lt-ltb (w .len) mostChars lt, add-one (w .len))
-    (take-suc-set (w .chars) (w .len) x (omega (arith, i .whole)))
+    (take-suc-set (w .chars) (w .len) (capital x) (omega (arith, i .whole)))
 
 -- and the command is not overlong for it
 pub kept-short : (x : ℕ) (w : Wire) → eqb x 32 ≡ false → w .len < mostChars → collect x w .overlong ≡ w .overlong
 unfolding collect
 kept-short x w other lt = rw (other, lt-ltb (w .len) mostChars lt)
 
--- A character for which there is no room makes it overlong, and alters nothing else.
+-- A character for which there is no room makes it overlong, and alters nothing else: not the command
+pub overlong-sent : (w : Wire) → sent (tooLong w) ≡ sent w
+unfolding sent
+overlong-sent w = refl
+
 pub kept-none : (x : ℕ) (w : Wire) → eqb x 32 ≡ false → mostChars ≤ w .len → collect x w ≡ tooLong w
 unfolding collect
 kept-none x w other le = rw (other, le-ltb (w .len) mostChars le)

@@ -1,14 +1,11 @@
--- Laws of the code's answers and loops.
+-- Laws of the code's answers.
 -- Assumes nothing.
-use mathlib.Core.Path.{_≡_, refl, sym, ap, ap₂, _∙_}
-use Prim.Native.Nat.{ℕ, _+_, _-_, _<_}
-use native.Mathlib.Numerals.{add-one}
-use mathlib.Core.List.{List, [], _∷_, _++_, map}
-use lib.ListN.{length, take, drop, getD, set}
-use lib.Seq.{take-suc, take-suc-set}
+use mathlib.Core.Path.{_≡_, refl, ap, _∙_}
+use Prim.Native.Nat.{ℕ, _-_}
+use mathlib.Core.List.{List}
+use lib.ListN.{length, take, drop}
 use Rattle.formats.specs.Checks.{Res, refused, passed}
 use Rattle.formats.proofs.NumbersRead.{told}
-use Rattle.formats.proofs.Loops.{map-snoc}
 use Rattle.formats.proofs.Parts.{rest-of}
 use Rattle.special.specs.declared.Mode.{Mode}
 use Rattle.wire.specs.declared.Data.{Data}
@@ -17,16 +14,7 @@ use Rattle.wire.specs.declared.Heard.{Heard}
 use Rattle.wire.specs.declared.Given.{Given}
 use Rattle.wire.specs.declared.Given.the-variants.{Is, Error}
 use Rattle.wire.specs.HeardCommand.{givenOf, heardOf, askedOf}
-use Rattle.wire.specs.Collecting.{capital}
 use Rattle.wire.specs.Command.{rest, dataIn}
-
--- one more capital
-pub capital-more : (chars copy : List ℕ) (i v : ℕ) → i < length chars → i < length copy → take i copy ≡ map capital (take i chars)
-    → v ≡ capital (getD chars i 0)
-    → take (i + 1) (set copy i v) ≡ map capital (take (i + 1) chars)
-capital-more chars copy i v a b e f =
-    ap (λ n. take n (set copy i v)) (add-one i) ∙ take-suc-set copy i v b ∙ ap₂ (λ l x. l ++ (x ∷ [])) e f
-    ∙ sym (ap (λ n. map capital (take n chars)) (add-one i) ∙ ap (map capital) (take-suc chars i 0 a) ∙ map-snoc capital (take i chars) (getD chars i 0))
 
 -- what was answered says what was read
 abbrev pub givenBack : Given → Res Data

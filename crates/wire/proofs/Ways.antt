@@ -5,7 +5,7 @@ use Prim.Native.Nat.{ℕ, _-_, _≤_, _<_}
 use native.Mathlib.Omega.{arith}
 use Prim.Native.Char.{code}
 use mathlib.Core.Bool.{Bool, true, false}
-use mathlib.Core.List.{List, map}
+use mathlib.Core.List.{List}
 use lib.ListN.{length, take}
 use borrow.Author.Tests.{eq-eqb, ne-eqb, le-leb, lt-leb}
 use Rattle.formats.specs.Checks.{refused, passed, _>>=_, _>>_, _orElse_}
@@ -16,7 +16,7 @@ use Rattle.special.specs.Special.{forbidden, allowed, specialOf, inReach}
 use Rattle.wire.specs.declared.Data.the-variants.{WriteSpecial}
 use Rattle.wire.specs.declared.Wire.{Wire}
 use Rattle.wire.specs.declared.Heard.{Heard}
-use Rattle.wire.specs.Collecting.{capital, sent}
+use Rattle.wire.specs.Collecting.{sent}
 use Rattle.wire.specs.HeardCommand.{heardOf}
 use Rattle.wire.specs.Command.{char, hasAddress, specialIn, inFormat, readCommand, writeCommand, commandIn, command}
 
@@ -72,9 +72,8 @@ module _ (mode : Mode) (parameter : ℕ) (cs : List ℕ) where
       is-given may reaches = rw (is, names, may, reaches)
 
 -- what was sent is read
-pub heard-sent : (w : Wire) (mode : Mode) (parameter : ℕ) (copy : List ℕ) {r : Heard}
-    → take (w .len) copy ≡ map capital (take (w .len) (w .chars)) → r ≡ heardOf (commandIn (take (w .len - 0) copy) w mode parameter)
+pub heard-sent : (w : Wire) (mode : Mode) (parameter : ℕ) {r : Heard} → r ≡ heardOf (commandIn (take (w .len - 0) (w .chars)) w mode parameter)
     → r ≡ heardOf (command w mode parameter)
 unfolding command sent
-heard-sent w mode parameter copy e h =
-    h ∙ ap (λ l. heardOf (commandIn l w mode parameter)) (ap (λ n. take n copy) (let n : w .len - 0 ≡ w .len = omega arith in n) ∙ e)
+heard-sent w mode parameter h =
+    let all : w .len - 0 ≡ w .len = omega arith in h ∙ ap (λ n. heardOf (commandIn (take n (w .chars)) w mode parameter)) all

@@ -4,7 +4,7 @@
 use Prim.Native.Nat.{ℕ, _+_, _-_}
 use Prim.Native.Char.{code}
 use mathlib.Core.Bool.{true, false, _&&_}
-use mathlib.Core.List.{List, map}
+use mathlib.Core.List.{List}
 use lib.ListN.{take, set, replicate}
 use lib.Dec.{leb, ltb, eqb}
 use Rattle.formats.specs.Checks.{if_then_else_}
@@ -25,10 +25,14 @@ readTo k w = record { chars = w .chars; len = w .len; overlong = w .overlong; ne
 abbrev pub wroteTo : ℕ → Wire → Wire
 wroteTo k w = record { chars = w .chars; len = w .len; overlong = w .overlong; nextread = w .nextread; nextwrite = k + 1 }
 
--- a character is kept as received
+-- "a-z count as A-Z."
+abbrev pub capital : ℕ → ℕ
+capital c = if leb (code "a") c && leb c (code "z") then c - 32 else c
+
+-- 02, item 5: "Turn letters to capitals as each character is kept."
 abbrev pub keep : ℕ → Wire → Wire
 keep x w =
-    record { chars = set (w .chars) (w .len) x; len = w .len + 1; overlong = w .overlong; nextread = w .nextread; nextwrite = w .nextwrite }
+    record { chars = set (w .chars) (w .len) (capital x); len = w .len + 1; overlong = w .overlong; nextread = w .nextread; nextwrite = w .nextwrite }
 
 abbrev pub tooLong : Wire → Wire
 tooLong w = record { chars = w .chars; len = w .len; overlong = true; nextread = w .nextread; nextwrite = w .nextwrite }
@@ -41,9 +45,6 @@ collect x w = if eqb x 32 then w else if ltb (w .len) mostChars then keep x w el
 abbrev pub cleared : Wire → Wire
 cleared w = record { chars = w .chars; len = 0; overlong = false; nextread = w .nextread; nextwrite = w .nextwrite }
 
-abbrev pub capital : ℕ → ℕ
-capital c = if leb (code "a") c && leb c (code "z") then c - 32 else c
-
--- the command: at byte 13 the characters kept are copied in capitals
+-- the command that byte 13 finds: the characters kept
 unfoldable pub sent : Wire → List ℕ
-sent w = map capital (take (w .len) (w .chars))
+sent w = take (w .len) (w .chars)

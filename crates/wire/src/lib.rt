@@ -2,13 +2,13 @@
 // Definitions: specs/Collecting.antt, specs/Command.antt; specs/HeardCommand.antt for what the types of the answers stand for.
 ghost use mathlib.Core.Path.{_≡_};
 ghost use mathlib.Core.Bool.{true};
-ghost use mathlib.Core.List.{map};
 ghost use Prim.Native.Nat.{_≤_};
-ghost use lib.ListN.{length, take};
+ghost use lib.ListN.{length};
 ghost use Rattle.wire.specs.Collecting.{freshWire, readTo, wroteTo, collect, cleared, capital};
 ghost use Rattle.wire.specs.Command.{hasAddress, inFormat};
 ghost use Rattle.wire.specs.Command.{specialIn, dataIn, readCommand, writeCommand, commandIn, command};
 ghost use Rattle.wire.specs.HeardCommand.{givenOf, heardOf};
+ghost use Rattle.wire.specs.Invariant.{WireInvariant};
 use formats::Byte;
 use lines::Line;
 use special::Mode;
@@ -21,7 +21,7 @@ mod address;
 // What is collected, and where each direction stands.
 #[repr(C)]
 pub struct Wire {
-    // the first `len` of these are the characters kept, as received
+    // the first `len` of these are the characters kept, in capitals
     pub chars: [u8; 32],
     pub len: usize,
     // a 33rd character came
@@ -91,7 +91,8 @@ impl Wire {
         self
     }
 
-    // A byte other than 13: 32 is dropped, a character is kept where there is room, and makes the command overlong where there is none.
+    // A byte other than 13: 32 is dropped, a character is kept as a capital where there is room, and makes the command overlong where there
+    // is none.
     pub fn collect(mut self, x: u8) -> Wire
         requires { ⌜ self .len ≤ 32 ⌝ }
         ensures collected { λ r. ⌜ r ≡ collect x self ⌝ }
@@ -101,7 +102,7 @@ impl Wire {
         }
         let at = self.len;
         if at < 32 {
-            self.chars[at] = x;
+            self.chars[at] = capital(x);
             self.len = at + 1;
             return self;
         }
@@ -130,20 +131,6 @@ fn capital(c: u8) -> u8
         return c;
     }
     c - 32
-}
-
-// The second copy of the characters kept, in capitals.
-fn capitals(chars: [u8; 32], len: usize) -> [u8; 32]
-    requires { ⌜ len ≤ 32 ⌝ }
-    ensures capitals { λ r. ⌜ take len r ≡ map capital (take len chars) ⌝ }
-{
-    let mut copy = chars;
-    let mut i: usize = 0;
-    while i < len {
-        copy[i] = capital(chars[i]);
-        i += 1;
-    }
-    copy
 }
 
 // Check 7: the special command that a code names; E003 where it names none, the table's error where it is forbidden in the present state,
@@ -272,7 +259,7 @@ fn in_format(overlong: bool, cs: &[u8]) -> bool
     false
 }
 
-// Characters in capitals, check by check.
+// The characters of a command, check by check.
 fn command_in(cs: &[u8], w: Wire, mode: Mode, parameter: u8) -> Heard
     ensures command { λ r. ⌜ r ≡ heardOf (commandIn (now (cs .entry)) w mode parameter) ⌝ }
 {
@@ -290,11 +277,10 @@ fn command_in(cs: &[u8], w: Wire, mode: Mode, parameter: u8) -> Heard
 
 // What the collected characters ask for.
 pub fn command(w: Wire, mode: Mode, parameter: u8) -> Heard
-    requires { ⌜ w .len ≤ 32 ⌝ }
+    requires { ⌜ WireInvariant w ⌝ }
     ensures command { λ r. ⌜ r ≡ heardOf (command w mode parameter) ⌝ }
 {
     let len = w.len;
     let chars = w.chars;
-    let sent = capitals(chars, len);
-    command_in(&sent[0..len], w, mode, parameter)
+    command_in(&chars[0..len], w, mode, parameter)
 }

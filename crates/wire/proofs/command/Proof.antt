@@ -1,12 +1,9 @@
--- `wire::command` meets its contract: the copy in capitals is what was sent.
+-- `wire::command` meets its contract: the characters kept are what was sent.
 -- Assumes nothing.
 use Rattle.wire.proofs.Ways.{heard-sent}
 use borrow.Author.Needs.{needs}
 use Rattle.wire.proofs.command.Statement.{statement}
 use Rattle.wire.proofs.command.Tie as tie
-
-capitals-requires : tie.Need-capitals-requires
-capitals-requires c κs = search needs
 
 sub-command-in : tie.Need-sub-command-in
 sub-command-in c = search needs
@@ -22,15 +19,13 @@ command-in-requires c κs = search needs
 
 returns : tie.Need-returns
 returns c =
-    let args = c .before .before .before .before .before .args in
-    let capitals = c .before .before .before .capitals in
-    heard-sent (args .w) (args .mode) (args .parameter) _ (capitals .ensures) (c .command-in .ensures)
+    let args = c .before .before .before .before .args in
+    heard-sent (args .w) (args .mode) (args .parameter) (c .command-in .ensures)
 
 pub command-spec : {M : Type 1} → statement M
 command-spec =
     tie.close
     (tie.spec
-    capitals-requires
     sub-command-in
     part-command-in-start
     part-command-in-end
