@@ -20,7 +20,6 @@ use Rattle.running.specs.Running.{allFree, stopped, holds, ends, onward,
 use Rattle.running.specs.Running.{counted, stops, rests, isHeld, follow, step, runDue, most, start, tick}
 use Rattle.running.specs.Ended.{Ended}
 use Rattle.running.proofs.Ways.{onward-ways, state-ways, for-ways, next-ways, bad-way}
-use Rattle.running.proofs.Turns.{counted-one}
 
 -- ---- at most 400 lines
 
@@ -28,6 +27,12 @@ follow-lines : (b : ℕ) (h : How) (n : ℕ) (r : Run) (go : Run → Ran) → n 
 follow-lines b Holds n r go le k = le
 follow-lines b (Ends e) n r go le k = le
 follow-lines b GoesOn n r go le k = k r
+
+counted-one : (l : Line) → counted l ≤ 1
+counted-one (State o t) = omega arith
+counted-one (For c n) = omega arith
+counted-one (Next c) = omega arith
+counted-one Bad = omega arith
 
 due-lines : (p : List ℕ) (left n : ℕ) (r : Run) → runDue p left n r .lines ≤ n + left
 unfolding runDue

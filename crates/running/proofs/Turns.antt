@@ -1,10 +1,13 @@
 -- The lines of one call, line by line.
 -- Assumes nothing.
-use Prim.Native.Nat.{ℕ, suc, _+_, _-_, _≤_, _<_}
+use Prim.Native.Nat.{ℕ, zero, suc, _+_, _-_, _≤_, _<_}
 use native.Mathlib.Omega.{arith}
 use mathlib.Core.Path.{_≡_, refl, sym, ap, _∙_}
-use mathlib.Core.Bool.{true}
+use mathlib.Core.Logic.{_≢_}
+use mathlib.Core.Bool.{Bool, true, false, true≢false}
 use mathlib.Core.List.{List, [], _∷_}
+use lib.ListN.{set}
+use lib.Seq.{set-getD}
 use lib.Dec.{leb}
 use borrow.Author.Tests.{leb-true}
 use types.Run.{OneOf, miss}
@@ -15,65 +18,143 @@ use Rattle.lines.specs.declared.Line.the-variants.{State, For, Next, Bad}
 use Rattle.lines.specs.Line.{isCounter}
 use Rattle.lines.specs.Program.{lineAt}
 use Rattle.lines.proofs.Line as L
+use Rattle.lines.proofs.Lines.{Ranged}
 use Rattle.lines.proofs.Places.{line-ranged}
+use Rattle.running.specs.declared.Counter.{Counter}
 use Rattle.running.specs.declared.Run.{Run}
+use Rattle.running.specs.declared.How.{How}
 use Rattle.running.specs.declared.How.the-variants.{Holds, Ends, GoesOn}
 use Rattle.running.specs.declared.Step.{Step}
-use Rattle.running.specs.Running.{onward, tick, runLine, isForOrNext, counted, stops, rests, follow, step, runDue}
-use Rattle.running.proofs.Ways.{state-ways, bad-way}
+use Rattle.running.specs.declared.Turn.{Turn}
+use Rattle.running.specs.Running.{free, counter, ends, onward, tick, runLine, isForOrNext, stops, rests, follow, step, runDue}
+use Rattle.running.specs.Turn.{counterOf, turned, Leads}
+use Rattle.running.proofs.How as H
+use Rattle.running.proofs.Ways.{onward-ways, state-ways, for-ways, next-ways}
 use Rattle.running.proofs.Invariant.{Going, onward-going, step-going}
 use Rattle.running.proofs.Waiting.{due-at}
-use Rattle.running.proofs.Steps.{bad-line, loop-over}
+use Rattle.running.proofs.Steps.{bad-line, loop-counts, loop-over}
 
 -- ---- the counters that lines name
 
-pub counter-range : (c : ℕ) → isCounter c ≡ true → (1 ≤ c) × (c ≤ 4)
-counter-range c e = let p = both-true (leb 1 c) (leb c 4) e in (leb-true 1 c (p .0), leb-true c 4 (p .1))
+-- a line names one of the four counters, or none; those that name one are counted
+pub record Named (l : Line) : Type 0 where
+  pub most : counterOf l ≤ 4
+  pub counted : counterOf l ≢ 0 → isForOrNext l ≡ true
+  pub uncounted : counterOf l ≡ 0 → isForOrNext l ≡ false
 
-pub for-counter : (p : List ℕ) (k : ℕ) {c n : ℕ} → lineAt p k ≡ For c n → isCounter c ≡ true
-for-counter p k e = (rw e at (line-ranged p k)) .range .0
+some-named : (l : Line) (c : ℕ) → counterOf l ≡ c → isCounter c ≡ true → isForOrNext l ≡ true → Named l
+some-named l c is e counts =
+    let range = both-true (leb 1 c) (leb c 4) e in
+    let least = leb-true 1 c (range .0) in
+    record { most = omega (arith, leb-true c 4 (range .1)); counted = λ _. counts; uncounted = λ none. absurd (omega arith) }
 
-pub next-counter : (p : List ℕ) (k : ℕ) {c : ℕ} → lineAt p k ≡ Next c → isCounter c ≡ true
-next-counter p k e = (rw e at (line-ranged p k)) .range
+named : (l : Line) → Ranged l → Named l
+named (State o t) q = record { most = omega arith; counted = λ some. absurd (some refl); uncounted = λ _. refl }
+named (For c n) q = some-named (For c n) c refl (q .range .0) refl
+named (Next c) q = some-named (Next c) c refl (q .range) refl
+named Bad q = record { most = omega arith; counted = λ some. absurd (some refl); uncounted = λ _. refl }
+
+-- every line of a program does so
+pub line-named : (p : List ℕ) (k : ℕ) {l : Line} → l ≡ lineAt p k → Named l
+line-named p k due = rw due (named (lineAt p k) (line-ranged p k))
 
 -- ---- one line of a call
 
--- a line after which the next falls due is counted
-goes-counted : (p : List ℕ) (l : Line) (r : Run) → runLine p l r .how ≡ GoesOn → counted l ≡ 1
-goes-counted p (State o t) r = state-ways (λ (s : Step). s .how ≡ GoesOn → _≡_ {A = ℕ} 0 1) p r o t (λ _ h. cc) (λ _ h. cc)
-goes-counted p (For c n) r = λ h. refl
-goes-counted p (Next c) r = λ h. refl
-goes-counted p Bad r = bad-way (λ (s : Step). s .how ≡ GoesOn → _≡_ {A = ℕ} 0 1) p r (λ h. cc)
+-- a counter set to what it holds
+pub unchanged : (c : ℕ) (r : Run) {held : Counter} → counter r c ≡ held → set (r .counters) (c - 1) held ≡ r .counters
+unchanged c r is = rw (sym is, set-getD (r .counters) (c - 1) free)
 
-pub counted-one : (l : Line) → counted l ≤ 1
-counted-one (State o t) = omega arith
-counted-one (For c n) = omega arith
-counted-one (Next c) = omega arith
-counted-one Bad = omega arith
+-- a turn that ends the program where it is, and leaves its counter
+pub stays : (c : ℕ) (r : Run) {k e : ℕ} {held : Counter} → r .line ≡ k → counter r c ≡ held
+    → turned c (record { held = held; line = k; how = Ends e }) r ≡ ends e r
+stays c r at is = rw (sym at, unchanged c r is)
 
--- line l is due after n counted ones, and leads to s; q is 1 if it counts, and 0 if not
-module _ (p : List ℕ) (r : Run) (n : ℕ) (l : Line) (q : ℕ) (s : Step)
-    (lt : n < 400) (due : l ≡ lineAt p (r .line)) (counts : q ≡ counted l) (is : s ≡ step p r) where
-  turn : runDue p (400 - n) n r ≡ follow (s .how) (n + q) (s .run) (λ x. runDue p (400 - (n + 1)) (n + q) x)
-  unfolding runDue
-  turn = let e : 400 - n ≡ suc (400 - (n + 1)) = omega arith in rw (e, counts, due, is)
+-- a counted line that is no For is a Next, which goes by its counter alone
+pub other-next : (p : List ℕ) (l : Line) {k : ℕ} {held : Counter} {t : Turn} → isForOrNext l ≡ true → OneOf (0 ∷ 2 ∷ 3 ∷ []) (tagOf L.the-type l)
+    → ((c : ℕ) → Leads [] (Next c) k held t) → Leads p l k held t
+unfolding runLine
+other-next p (State o t) counts g leads = absurd (true≢false (sym counts))
+other-next p (For c n) counts g leads = absurd (miss (0 ∷ 2 ∷ 3 ∷ []) 1 tt g)
+other-next p (Next c) counts g leads = leads c
+other-next p Bad counts g leads = absurd (true≢false (sym counts))
 
-  pub due-holds : s .how ≡ Holds → rests (n + q) (s .run) ≡ runDue p (400 - n) n r
-  due-holds w = sym (turn ∙ simp w)
+-- a For or a Next is never held
+abbrev isHolds : How → Bool
+isHolds Holds = true
+isHolds (Ends e) = false
+isHolds GoesOn = false
 
-  pub due-ends : {e : ℕ} → s .how ≡ Ends e → stops e (n + q) (s .run) ≡ runDue p (400 - n) n r
+abbrev NotHeld : Step → Type 0
+NotHeld s = isHolds (s .how) ≡ false
+
+onward-never : (r : Run) → NotHeld (onward r)
+onward-never r = onward-ways NotHeld r (λ _. refl) (λ _. refl)
+
+never-holds : (p : List ℕ) (l : Line) (r : Run) → isForOrNext l ≡ true → NotHeld (runLine p l r)
+never-holds p (State o t) r counts = absurd (true≢false (sym counts))
+never-holds p (For c n) r counts = for-ways NotHeld p r c n (λ _. refl) (λ _ _. refl) (λ _ _ _. onward-never _) (λ _ _ _. onward-never _)
+never-holds p (Next c) r counts = next-ways NotHeld p r c (λ _. refl) (λ _. refl) (λ _. onward-never _)
+never-holds p Bad r counts = absurd (true≢false (sym counts))
+
+-- so it goes on where it does not end
+going-on : (h : How) → isHolds h ≡ false → OneOf (0 ∷ 2 ∷ []) (tagOf H.the-type h) → h ≡ GoesOn
+going-on Holds never g = absurd (true≢false never)
+going-on (Ends e) never g = absurd (miss (0 ∷ 2 ∷ []) 1 tt g)
+going-on GoesOn never g = refl
+
+-- Line l, which names counter c, is due after n counted ones, and leads to the turn t.
+module _ (p : List ℕ) (r : Run) (n : ℕ) (l : Line) (c : ℕ) (t : Turn)
+    (lt : n < 400) (due : l ≡ lineAt p (r .line)) (names : c ≡ counterOf l) (some : c ≢ 0) (leads : Leads p l (r .line) (counter r c) t) where
+  counts : isForOrNext l ≡ true
+  counts = line-named p (r .line) due .counted (λ none. some (names ∙ none))
+
+  is : turned c t r ≡ runLine p l r
+  is = ap (λ d. turned d t r) names ∙ leads r refl (ap (counter r) (sym names))
+
+  is-step : turned c t r ≡ step p r
+  unfolding step
+  is-step = is ∙ ap (λ m. runLine p m r) due
+
+  turn : runDue p (400 - n) n r ≡ follow (t .how) (n + 1) (turned c t r .run) (λ x. runDue p (400 - (n + 1)) (n + 1) x)
+  turn =
+      let e : 400 - n ≡ suc (400 - (n + 1)) = omega arith in
+      rw e (loop-counts p r (ap isForOrNext (sym due) ∙ counts) (400 - (n + 1)) n
+      ∙ ap (λ (s : Step). follow (s .how) (n + 1) (s .run) (λ x. runDue p (400 - (n + 1)) (n + 1) x)) (sym is-step))
+
+  -- it ends the program, and counts,
+  pub due-ends : {e : ℕ} → t .how ≡ Ends e → stops e (n + 1) (turned c t r .run) ≡ runDue p (400 - n) n r
   due-ends w = sym (turn ∙ simp w)
 
-  pub due-one : s .how ≡ GoesOn → q ≡ 1
-  unfolding step
-  due-one w = counts ∙ ap counted due ∙ goes-counted p (lineAt p (r .line)) r (sym (ap (λ (x : Step). x .how) is) ∙ w)
+  -- or what is left to run after it is what was left before it,
+  pub due-goes-on : OneOf (0 ∷ 2 ∷ []) (tagOf H.the-type (t .how))
+      → runDue p (400 - n) n r ≡ runDue p (400 - (n + 1)) (n + 1) (turned c t r .run)
+  due-goes-on g =
+      turn ∙ simp (going-on (t .how) (ap (λ (s : Step). isHolds (s .how)) is ∙ never-holds p l r counts) g)
 
-  pub due-goes-on : s .how ≡ GoesOn → runDue p (400 - n) n r ≡ runDue p (400 - (n + q)) (n + q) (s .run)
-  due-goes-on w = let one = due-one w in turn ∙ simp (w, one)
+  -- and the run goes on
+  pub due-going : Going r → Going (turned c t r .run)
+  due-going g = rw (sym is-step) at (step-going p r g .going)
 
-  pub due-going : Going r → Going (s .run)
-  due-going g = rw is (step-going p r g .going)
+-- ---- the last line of a call
 
+module _ (p : List ℕ) (r : Run) (n : ℕ) where
+  last-left : (l : Line) → lineAt p (r .line) ≡ l → isForOrNext l ≡ false → (left : ℕ) → runDue p 0 n r ≡ runDue p (suc left) n r
+  unfolding runDue step
+  last-left (State o t) due plain left =
+      let none : n + 0 ≡ n = omega arith in
+      rw (due, none)
+      (state-ways (λ (s : Step). follow (s .how) n (s .run) (λ x. rests n x) ≡ follow (s .how) n (s .run) (λ x. runDue p left n x)) p r o t
+      (λ _. refl) (λ _. refl))
+  last-left (For c m) due plain left = absurd (true≢false plain)
+  last-left (Next c) due plain left = absurd (true≢false plain)
+  last-left Bad due plain left = bad-line p r due 0 n ∙ sym (bad-line p r due (suc left) n)
+
+  -- at a line that is not counted a call ends: how many more may be run does not matter
+  pub none-left : {l : Line} → l ≡ lineAt p (r .line) → counterOf l ≡ 0 → (left : ℕ) → runDue p 0 n r ≡ runDue p left n r
+  none-left due none zero = refl
+  none-left due none (suc left) = last-left _ (sym due) (line-named p (r .line) due .uncounted none) left
+
+-- when 400 were run none is left
 pub all-counted : (p : List ℕ) (r : Run) (n : ℕ) → 400 ≤ n → runDue p 0 n r ≡ runDue p (400 - n) n r
 all-counted p r n le = let z : 400 - n ≡ 0 = omega arith in rw z
 

@@ -19,7 +19,7 @@ use Rattle.running.specs.declared.Step.{Step}
 use Rattle.running.specs.Running.{free, counter, isBusy, isFree, atLine, withOutputs, waiting, withCounter, holds, ends, goesTo, onward, runLine}
 
 -- what is tested not to be 0 is above it
-pub above-zero : (n : ℕ) → eqb n 0 ≡ false → 0 < n
+above-zero : (n : ℕ) → eqb n 0 ≡ false → 0 < n
 above-zero n e = let ne : n ≢ 0 = eqb-false n 0 e in omega arith
 
 module _ (P : Step → Type 0) (r : Run) where

@@ -1,3 +1,4 @@
 pub mod Running
+pub mod Turn
 pub mod Invariant
 pub mod Ended

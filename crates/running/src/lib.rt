@@ -1,15 +1,15 @@
 // The part of the box that a running program moves, and what a start and a tick do to it.
-// A run is passed by value. A call that runs no line reads nothing of the program.
+// A run is passed by value, once for a call and not for each line. A call that runs no line reads nothing of the program.
 ghost use mathlib.Core.Path.{_≡_};
 ghost use mathlib.Core.Bool.{true};
 ghost use mathlib.Core.List.{[]};
-ghost use Prim.Native.Nat.{_<_};
+ghost use Prim.Native.Nat.{ℕ, _<_};
 ghost use lib.ListN.{length};
 ghost use Rattle.lines.specs.declared.Line.the-variants.{State, For, Next};
-ghost use Rattle.lines.specs.Line.{isCounter};
-ghost use Rattle.lines.specs.Program.{lineAt};
-ghost use Rattle.running.specs.Running.{free, allFree, freshRun, begun, isFree, withOutputs, stopped, onward, runLine};
-ghost use Rattle.running.specs.Running.{counted, stops, step, runDue, start, tick};
+ghost use Rattle.running.specs.declared.Run.{Run};
+ghost use Rattle.running.specs.Running.{free, allFree, freshRun, begun, atLine, withOutputs, withCounter, stopped, onward, runLine};
+ghost use Rattle.running.specs.Running.{isForOrNext, stops, runDue, start, tick};
+ghost use Rattle.running.specs.Turn.{counterOf, turned, Leads};
 ghost use Rattle.running.specs.Invariant.{RunInvariant};
 use lines::Line;
 
@@ -48,6 +48,14 @@ pub struct Step {
     pub how: How,
 }
 
+// What a For or a Next led to: its counter after it, the line then due or stopped on, and how. It is all that such a line changes of a
+// run, so the loop of a call passes on no whole run, which would be copied on the stack at each line.
+pub struct Turn {
+    pub held: Counter,
+    pub line: u8,
+    pub how: How,
+}
+
 // What a start or a tick did: the run after it, the event raised (0 for none), the number of For and Next lines run.
 pub struct Ran {
     pub run: Run,
@@ -57,20 +65,17 @@ pub struct Ran {
 
 // ---- one line
 
-// 1 for a line that a call counts, a For or a Next; 0 for any other.
-fn counted(line: Line) -> u16
-    ensures number { λ r. ⌜ r ≡ counted line ⌝ }
+// The counter of a For or a Next; 0 for a State and a Bad line, which name none: with these a call ends.
+fn counter_of(line: Line) -> u8
+    ensures number { λ r. ⌜ r ≡ counterOf line ⌝ }
 {
     match line {
         Line::State {
             outputs: _,
             time: _,
         } => 0,
-        Line::For {
-            counter: _,
-            count: _,
-        } => 1,
-        Line::Next { counter: _ } => 1,
+        Line::For { counter, count: _ } => counter,
+        Line::Next { counter } => counter,
         Line::Bad => 0,
     }
 }
@@ -88,6 +93,95 @@ fn all_free() -> [Counter; 4]
 {
     let one = free();
     [one; 4]
+}
+
+// To the line after k; past line 199 the program ends with event 009.
+fn past(held: Counter, k: u8) -> Turn
+    ensures turn { λ r. ⌜ ((c : ℕ) (s : Run) → turned c r s ≡ onward (atLine k (withCounter c held s))) ⌝ }
+{
+    if k < 199 {
+        let after = k + 1;
+        return Turn {
+            held,
+            line: after,
+            how: How::GoesOn,
+        };
+    }
+    Turn {
+        held,
+        line: k,
+        how: How::Ends(9),
+    }
+}
+
+// A For line takes its counter and goes on; with a busy counter event 006, with no later Next of it event 007. With count 0000 it
+// takes none and goes on from that Next.
+fn turn_for(p: &[u8], counter: u8, count: u16, k: u8, held: Counter) -> Turn
+    requires { ⌜ (length (now p) ≡ 1600) × (k < 200) ⌝ }
+    ensures turn { λ r. ⌜ Leads (now (p .entry)) (For counter count) k held r ⌝ }
+{
+    let busy = held.count;
+    if 0 < busy {
+        return Turn {
+            held,
+            line: k,
+            how: How::Ends(6),
+        };
+    }
+    let next = lines::next_after(p, counter, k);
+    if next == 200 {
+        return Turn {
+            held,
+            line: k,
+            how: How::Ends(7),
+        };
+    }
+    if count == 0 {
+        return past(held, next);
+    }
+    past(Counter { count, line: k }, k)
+}
+
+// A Next line takes one off its counter: above zero to the line after the For, at zero on; with a free counter event 008. The count alone
+// says that it is free, whatever stands above in the text.
+fn turn_next(k: u8, held: Counter) -> Turn
+    requires { ⌜ held .line < 199 ⌝ }
+    ensures turn { λ r. ⌜ ((c : ℕ) → Leads [] (Next c) k held r) ⌝ }
+{
+    let rounds = held.count;
+    if rounds == 0 {
+        return Turn {
+            held,
+            line: k,
+            how: How::Ends(8),
+        };
+    }
+    let from = held.line;
+    let left = rounds - 1;
+    if 0 < left {
+        let back = from + 1;
+        return Turn {
+            held: Counter {
+                count: left,
+                line: from,
+            },
+            line: back,
+            how: How::GoesOn,
+        };
+    }
+    let none = free();
+    past(none, k)
+}
+
+// The line that is due, a For or a Next, which was read already.
+fn turn_of(p: &[u8], line: Line, k: u8, held: Counter) -> Turn
+    requires { ⌜ (length (now p) ≡ 1600) × (k < 200) × (held .line < 199) × (isForOrNext line ≡ true) ⌝ }
+    ensures turn { λ r. ⌜ Leads (now (p .entry)) line k held r ⌝ }
+{
+    if let Line::For { counter, count } = line {
+        return turn_for(p, counter, count, k, held);
+    }
+    turn_next(k, held)
 }
 
 impl Run {
@@ -177,94 +271,6 @@ impl Run {
         }
     }
 
-    // A For line takes its counter and goes on; with a busy counter event 006, with no later Next of it event 007. With count 0000 it
-    // takes none and goes on from that Next.
-    fn run_for(mut self, p: &[u8], counter: u8, count: u16) -> Step
-        requires { ⌜ (length (now p) ≡ 1600) × (self .line < 200) × (isCounter counter ≡ true) ⌝ }
-        ensures step { λ r. ⌜ r ≡ runLine (now (p .entry)) (For counter count) self ⌝ }
-    {
-        let c = (counter - 1) as usize;
-        let held = self.counters[c];
-        let busy = held.count;
-        if 0 < busy {
-            return Step {
-                run: self,
-                how: How::Ends(6),
-            };
-        }
-        let line = self.line;
-        let next = lines::next_after(p, counter, line);
-        if next == 200 {
-            return Step {
-                run: self,
-                how: How::Ends(7),
-            };
-        }
-        if count == 0 {
-            self.line = next;
-            return self.onward();
-        }
-        self.counters[c] = Counter { count, line };
-        self.onward()
-    }
-
-    // A counter that is not busy. Its count alone says so, whatever stands above in the text.
-    fn is_free(self, counter: u8) -> bool
-        requires { ⌜ isCounter counter ≡ true ⌝ }
-        ensures test { λ r. ⌜ r ≡ isFree self counter ⌝ }
-    {
-        let c = (counter - 1) as usize;
-        let held = self.counters[c];
-        held.count == 0
-    }
-
-    // A Next line takes one off its counter: above zero to the line after the For, at zero on; with a free counter event 008.
-    fn run_next(mut self, counter: u8) -> Step
-        requires { ⌜ (RunInvariant self) × (isCounter counter ≡ true) ⌝ }
-        ensures step { λ r. ⌜ r ≡ runLine [] (Next counter) self ⌝ }
-    {
-        if self.is_free(counter) {
-            return Step {
-                run: self,
-                how: How::Ends(8),
-            };
-        }
-        let c = (counter - 1) as usize;
-        let held = self.counters[c];
-        let from = held.line;
-        let left = held.count - 1;
-        if 0 < left {
-            self.counters[c] = Counter {
-                count: left,
-                line: from,
-            };
-            self.line = from + 1;
-            return Step {
-                run: self,
-                how: How::GoesOn,
-            };
-        }
-        let none = free();
-        self.counters[c] = none;
-        self.onward()
-    }
-
-    // The line that is due, which was read already; a Bad one ends the program with event 014.
-    fn run_line(self, p: &[u8], line: Line) -> Step
-        requires { ⌜ (length (now p) ≡ 1600) × (RunInvariant self) × (line ≡ lineAt (now p) (self .line)) ⌝ }
-        ensures step { λ r. ⌜ r ≡ step (now (p .entry)) self ⌝ }
-    {
-        match line {
-            Line::State { outputs, time } => self.run_state(outputs, time),
-            Line::For { counter, count } => self.run_for(p, counter, count),
-            Line::Next { counter } => self.run_next(counter),
-            Line::Bad => Step {
-                run: self,
-                how: How::Ends(14),
-            },
-        }
-    }
-
     // ---- the lines of one call
 
     // The program stops with an event, after n lines.
@@ -279,8 +285,8 @@ impl Run {
         }
     }
 
-    // What is due when n lines were run and no more may be: a State line is run, a Bad one ends the program with event 014; for any other
-    // it stops with event 013.
+    // The last line of a call, after n that counted: a State line is run, a Bad one ends the program with event 014; for any other, which
+    // would be the 401st, it stops with event 013.
     fn last_due(self, p: &[u8], n: u16) -> Ran
         requires { ⌜ (length (now p) ≡ 1600) × (RunInvariant self) ⌝ }
         ensures ran { λ r. ⌜ r ≡ runDue (now (p .entry)) 0 n self ⌝ }
@@ -321,24 +327,20 @@ impl Run {
         while n < 400 {
             let k = run.line;
             let line = lines::line_at(p, k as usize);
-            let m = n + counted(line);
-            let s = run.run_line(p, line);
-            let how = s.how;
-            run = s.run;
-            match how {
-                How::Holds => {
-                    return Ran {
-                        run,
-                        event: 0,
-                        lines: m,
-                    };
-                }
-                How::Ends(event) => {
-                    return run.ended(event, m);
-                }
-                How::GoesOn => {
-                    n = m;
-                }
+            let counter = counter_of(line);
+            if counter == 0 {
+                break;
+            }
+            n += 1;
+            let c = (counter - 1) as usize;
+            let before = run.counters[c];
+            let t = turn_of(p, line, k, before);
+            let held = t.held;
+            run.counters[c] = held;
+            run.line = t.line;
+            let how = t.how;
+            if let How::Ends(event) = how {
+                return run.ended(event, n);
             }
         }
         run.last_due(p, n)

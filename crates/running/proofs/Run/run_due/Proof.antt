@@ -1,10 +1,12 @@
--- `running::Run::run_due` meets its contract: the loop keeps what is left to run equal to what was to run; each turn but the last counts one line.
+-- `running::Run::run_due` meets its contract: the loop keeps what is left to run equal to what was to run; each turn counts one line, and
+-- by both ways out what is left is what the last line leads to.
 -- Assumes nothing.
 use Prim.Native.Nat.{_-_, _≤_}
 use mathlib.Core.Path.{_≡_, refl, sym, _∙_}
+use mathlib.Core.Logic.{⊎-elim}
 use native.Mathlib.Omega.{arith}
 use borrow.Author.Needs.{needs}
-use Rattle.running.proofs.Turns.{due-holds, due-ends, due-one, due-goes-on, due-going, all-counted, counted-one}
+use Rattle.running.proofs.Turns.{line-named, due-ends, due-goes-on, due-going, all-counted, none-left}
 use Rattle.running.proofs.Invariant.{Going, goes-on, still}
 use Rattle.running.specs.Running.{runDue}
 use Rattle.running.proofs.Run.run_due.Statement.{statement}
@@ -25,29 +27,47 @@ cast-line-at c = search needs
 line-at-requires : tie.Need-line-at-requires Inv-loop μ-loop
 line-at-requires c κs = let g = c .before .loop .inv .1 .inProgram in search needs
 
-counted-requires : tie.Need-counted-requires Inv-loop μ-loop
-counted-requires c κs = search needs
+counter-of-requires : tie.Need-counter-of-requires Inv-loop μ-loop
+counter-of-requires c κs = search needs
 
-add-m : tie.Need-add-m Inv-loop μ-loop
-add-m c = omega (arith, c .counted .ensures, counted-one (c .before .line-at .result))
+add-n : tie.Need-add-n Inv-loop μ-loop
+add-n c = search needs
 
-run-line-requires : tie.Need-run-line-requires Inv-loop μ-loop
-run-line-requires c κs =
-    let pre = c .before .before .before .before .before .pre in
-    let loop = c .before .before .before .loop in
-    (pre .0, still (loop .inv .1), c .before .line-at .ensures)
+sub-c : tie.Need-sub-c Inv-loop μ-loop
+sub-c c = search needs
 
-enum-told : tie.Need-enum-told Inv-loop μ-loop
-enum-told c = search needs
+cast-c : tie.Need-cast-c Inv-loop μ-loop
+cast-c c = search needs
 
-returns : tie.Need-returns Inv-loop μ-loop
-returns c =
-    let loop = c .before .before .before .before .before .before .before .loop in
-    let loop-test = c .before .before .before .before .before .before .loop-test in
+mul-before : tie.Need-mul-before Inv-loop μ-loop
+mul-before c = search needs
+
+element-copy-out-before : tie.Need-element-copy-out-before Inv-loop μ-loop
+element-copy-out-before c =
+    let line-at = c .before .before .line-at in
+    omega (arith, c .before .counter-of .ensures, line-named _ _ (line-at .ensures) .most)
+
+turn-of-requires : tie.Need-turn-of-requires Inv-loop μ-loop
+turn-of-requires c κs =
+    let pre = c .before .before .before .before .before .before .before .pre in
+    let loop = c .before .before .before .before .before .loop in
+    let line-at = c .before .before .before .line-at in
+    let counter-of = c .before .before .counter-of in
+    let if1 = c .before .if1 in (
+      pre .0,
+      loop .inv .1 .inProgram,
+      loop .inv .1 .forLine _,
+      line-named _ _ (line-at .ensures) .counted (λ none. if1 .left (counter-of .ensures ∙ none)),
+    )
+
+mul-held : tie.Need-mul-held Inv-loop μ-loop
+mul-held c = search needs
+
+element-set-from-held : tie.Need-element-set-from-held Inv-loop μ-loop
+element-set-from-held c =
     let line-at = c .before .before .before .before .before .line-at in
-    let counted = c .before .before .before .before .counted in
-    let run-line = c .before .before .before .run-line in
-    due-holds _ _ _ _ _ _ (loop-test .taken) (line-at .ensures) (counted .ensures) (run-line .ensures) (c .enum-told .given .1) ∙ sym (loop .inv .2)
+    let counter-of = c .before .before .before .before .counter-of in
+    omega (arith, counter-of .ensures, line-named _ _ (line-at .ensures) .most)
 
 enum-known-how : tie.Need-enum-known-how Inv-loop μ-loop
 enum-known-how c = search needs
@@ -55,49 +75,45 @@ enum-known-how c = search needs
 ended-requires : tie.Need-ended-requires Inv-loop μ-loop
 ended-requires c κs = search needs
 
-returns-2 : tie.Need-returns-2 Inv-loop μ-loop
-returns-2 c =
-    let loop = c .before .before .before .before .before .before .before .before .before .loop in
-    let loop-test = c .before .before .before .before .before .before .before .before .loop-test in
-    let line-at = c .before .before .before .before .before .before .before .line-at in
-    let counted = c .before .before .before .before .before .before .counted in
-    let run-line = c .before .before .before .before .before .run-line in
+returns : tie.Need-returns Inv-loop μ-loop
+returns c =
+    let loop = c .before .before .before .before .before .before .before .before .before .before .before .loop in
+    let loop-test = c .before .before .before .before .before .before .before .before .before .before .loop-test in
+    let line-at = c .before .before .before .before .before .before .before .before .before .line-at in
+    let counter-of = c .before .before .before .before .before .before .before .before .counter-of in
+    let if1 = c .before .before .before .before .before .before .before .if1 in
+    let turn-of = c .before .before .before .before .before .turn-of in
     let how = c .before .before .how in
     c .ended .ensures
-    ∙ due-ends _ _ _ _ _ _ (loop-test .taken) (line-at .ensures) (counted .ensures) (run-line .ensures) (how .given .1) ∙ sym (loop .inv .2)
-
-enum-told-2 : tie.Need-enum-told-2 Inv-loop μ-loop
-enum-told-2 c = search needs
+    ∙ due-ends _ _ _ _ _ _ (loop-test .taken) (line-at .ensures) (counter-of .ensures) (if1 .left) (turn-of .ensures) (how .given .1)
+    ∙ sym (loop .inv .2)
 
 loop-less : tie.Need-loop-less Inv-loop μ-loop
-loop-less c =
-    let loop-test = c .before .before .before .before .before .before .loop-test in
-    let line-at = c .before .before .before .before .before .line-at in
-    let counted = c .before .before .before .before .counted in
-    let run-line = c .before .before .before .run-line in
-    let one = due-one _ _ _ _ _ _ (loop-test .taken) (line-at .ensures) (counted .ensures) (run-line .ensures) (c .enum-told2 .given .1) in
-    search needs
+loop-less c = search needs
 
 loop-again : tie.Need-loop-again Inv-loop μ-loop
 loop-again c =
-    let loop = c .before .before .before .before .before .before .before .loop in
-    let loop-test = c .before .before .before .before .before .before .loop-test in
-    let line-at = c .before .before .before .before .before .line-at in
-    let counted = c .before .before .before .before .counted in
-    let run-line = c .before .before .before .run-line in
-    let one = due-one _ _ _ _ _ _ (loop-test .taken) (line-at .ensures) (counted .ensures) (run-line .ensures) (c .enum-told2 .given .1) in (
+    let loop = c .before .before .before .before .before .before .before .before .loop in
+    let loop-test = c .before .before .before .before .before .before .before .loop-test in
+    let line-at = c .before .before .before .before .before .before .line-at in
+    let counter-of = c .before .before .before .before .before .counter-of in
+    let if1 = c .before .before .before .before .if1 in
+    let turn-of = c .before .before .turn-of in (
       search needs,
-      due-going _ _ _ _ _ _ (loop-test .taken) (line-at .ensures) (counted .ensures) (run-line .ensures) (loop .inv .1),
-      loop .inv .2 ∙ due-goes-on _ _ _ _ _ _ (loop-test .taken) (line-at .ensures) (counted .ensures) (run-line .ensures) (c .enum-told2 .given .1),
+      due-going _ _ _ _ _ _ (loop-test .taken) (line-at .ensures) (counter-of .ensures) (if1 .left) (turn-of .ensures) (loop .inv .1),
+      loop .inv .2
+          ∙ due-goes-on _ _ _ _ _ _ (loop-test .taken) (line-at .ensures) (counter-of .ensures) (if1 .left) (turn-of .ensures) (c .match .keys2),
     )
 
 last-due-requires : tie.Need-last-due-requires Inv-loop μ-loop
 last-due-requires c κs = (c .before .before .before .pre .0, still (c .before .loop .inv .1))
 
-returns-3 : tie.Need-returns-3 Inv-loop μ-loop
-returns-3 c =
+returns-2 : tie.Need-returns-2 Inv-loop μ-loop
+returns-2 c =
     let loop = c .before .before .loop in
-    c .last-due .ensures ∙ all-counted _ _ _ (c .before .loop-test .left) ∙ sym (loop .inv .2)
+    c .last-due .ensures
+    ∙ ⊎-elim (λ w. all-counted _ _ _ (w .left)) (λ w. none-left _ _ _ (w .1 .ensures) (sym (w .2 .ensures) ∙ w .3 .taken) _) (c .before .loop-test .came)
+    ∙ sym (loop .inv .2)
 
 pub run-due-spec : {M : Type 1} → statement M
 run-due-spec =
@@ -108,16 +124,19 @@ run-due-spec =
     loop-holds
     cast-line-at
     line-at-requires
-    counted-requires
-    add-m
-    run-line-requires
-    enum-told
-    returns
+    counter-of-requires
+    add-n
+    sub-c
+    cast-c
+    mul-before
+    element-copy-out-before
+    turn-of-requires
+    mul-held
+    element-set-from-held
     enum-known-how
     ended-requires
-    returns-2
-    enum-told-2
+    returns
     loop-less
     loop-again
     last-due-requires
-    returns-3)
+    returns-2)

@@ -1,0 +1,26 @@
+-- What a For or a Next takes of a run, its line and the counter that it names, and what it changes of it: these two, and no other part.
+use Prim.Native.Nat.{ℕ}
+use mathlib.Core.Path.{_≡_}
+use mathlib.Core.List.{List}
+use Rattle.lines.specs.declared.Line.{Line}
+use Rattle.lines.specs.declared.Line.the-variants.{State, For, Next, Bad}
+use Rattle.running.specs.declared.Counter.{Counter}
+use Rattle.running.specs.declared.Run.{Run}
+use Rattle.running.specs.declared.Step.{Step}
+use Rattle.running.specs.declared.Turn.{Turn}
+use Rattle.running.specs.Running.{counter, atLine, withCounter, runLine}
+
+-- the counter that a line names, and 0 for one that names none
+abbrev pub counterOf : Line → ℕ
+counterOf (State outputs time) = 0
+counterOf (For c count) = c
+counterOf (Next c) = c
+counterOf Bad = 0
+
+-- a turn of counter c, put back into its run
+abbrev pub turned : ℕ → Turn → Run → Step
+turned c t r = record { run = atLine (t .line) (withCounter c (t .held) r); how = t .how }
+
+-- On line k, with its counter as `held`, line l leads to the turn t, whatever else the run is.
+abbrev pub Leads : List ℕ → Line → ℕ → Counter → Turn → Type 0
+Leads p l k held t = (r : Run) → r .line ≡ k → counter r (counterOf l) ≡ held → turned (counterOf l) t r ≡ runLine p l r
