@@ -103,7 +103,7 @@ struct nizhalepu_run {
 };
 
 struct nizhalepu_wire {
-    uint8_t chars[32];  /* the characters collected since the last 13 */
+    uint8_t chars[32];  /* the characters collected since the last 13, in capitals */
     size_t len;
     bool overlong;      /* a 33rd came */
     uint8_t nextread;   /* the last address read, plus one */

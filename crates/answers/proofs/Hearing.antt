@@ -4,22 +4,15 @@ use mathlib.Core.Path.{_≡_, sym, ap, _∙_}
 use Prim.Native.Nat.{ℕ}
 use mathlib.Core.Bool.{Bool, true, false}
 use Rattle.formats.specs.Checks.{Res, passed, _>>=_}
-use Rattle.special.specs.declared.Mode.{Mode}
-use Rattle.wire.specs.declared.Wire.{Wire}
 use Rattle.wire.specs.declared.Data.{Data}
 use Rattle.wire.specs.declared.Asked.{Asked}
 use Rattle.wire.specs.declared.Asked.the-variants.{Read, Write}
 use Rattle.wire.specs.declared.Heard.{Heard}
 use Rattle.wire.specs.declared.Heard.the-variants.{Is, Error}
 use Rattle.wire.specs.HeardCommand.{heardOf, askedOf}
-use Rattle.wire.specs.Command.{command}
 use Rattle.wire.proofs.DataHeard.{heard-told}
 use Rattle.controller.specs.Deeds.{legible}
 use Rattle.controller.proofs.Legible.{error-stays, write-stays, read-stays, read-illegible}
-
--- the checks, in the mode that the state is in
-pub by-the-checks : (w : Wire) (n : ℕ) {h : Heard} {m m′ : Mode} → h ≡ heardOf (command w m n) → m ≡ m′ → h ≡ heardOf (command w m′ n)
-by-the-checks w n e f = e ∙ ap (λ m. heardOf (command w m n)) f
 
 module _ (bad : ℕ → Bool) (r : Res Asked) {h : Heard} (heard : h ≡ heardOf r) where
   gave : {r′ : Res Asked} → askedOf h ≡ r′ → r ≡ r′

@@ -1,3 +1,1 @@
-pub mod Sounds
 pub mod Hearing
-pub mod Replies

@@ -3,6 +3,7 @@ use Prim.Native.Nat.{ℕ}
 use mathlib.Core.Bool.{Bool}
 use mathlib.Core.List.{List}
 use Rattle.formats.specs.Checks.{Res, refused, passed, _>>_, _orElse_}
+use Rattle.controller.specs.declared.Controller.{Controller}
 use Rattle.controller.specs.Controller.{Areas}
 use Rattle.controller.specs.Deeds.{Deed}
 use Rattle.controller.specs.Refusals.{lent}
@@ -27,9 +28,9 @@ tested programs log test number = lent programs log >> (test orElse number)
 abbrev pub refusing : ℕ → SwitchBox → Returned
 refusing n b = record { next = b; refusal = n; lines = 0; written = 0 }
 
--- what was done, with no change to log
-abbrev pub quiet : Deed → After
-quiet x = record { state = x .state; refusal = 0; lines = x .lines; written = x .written; areas = x .areas }
+-- the state after a call that made no change to log, with the bytes written and the areas
+abbrev pub quiet : Controller → ℕ → Areas → After
+quiet c n a = record { state = c; refusal = 0; lines = 0; written = n; areas = a }
 
 -- what was done, logged and answered
 abbrev pub acceptedBy : ℕ → ℕ → Deed → After

@@ -1,1 +1,2 @@
 pub mod OnAreas
+pub mod Moving

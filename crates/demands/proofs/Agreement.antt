@@ -51,7 +51,8 @@ module _ (t : Told) (c : Controller) (a : Areas) (g : Agrees t c) where
   error-agrees : (e : ℕ) → Agrees (afterwards (byte 13) silence a t) (answer (refused e) c a .state)
   unfolding afterwards answer writing toldWire
   error-agrees e =
-      wire-agrees t c g (cleared (c .wire)) (t .nextRead) (t .nextWrite) [] (g .wire .nextRead) (g .wire .nextWrite) (nothing-collected _ (record { none = refl; short = refl }))
+      wire-agrees t c g (cleared (c .wire)) (t .nextRead) (t .nextWrite) [] (g .wire .nextRead) (g .wire .nextWrite)
+      (nothing-collected _ (record { none = refl; short = refl }))
 
   read-agrees : (k : ℕ) → Agrees (afterwards (byte 13) (reads k) a t) (answer (passed (Read k)) c a .state)
   unfolding afterwards answer writing toldWire toldEvent
@@ -67,7 +68,8 @@ module _ (t : Told) (c : Controller) (a : Areas) (g : Agrees t c) where
   -- a write moves its direction's address, and leaves the rest to its data
   wrote-agrees : (k : ℕ) → Agrees (toldWire (t .nextRead) (k + 1) [] t) (wroteTo k (emptyCollection c))
   wrote-agrees k =
-      wire-agrees t c g (Collecting.wroteTo k (cleared (c .wire))) (t .nextRead) (k + 1) [] (g .wire .nextRead) refl (nothing-collected _ (record { none = refl; short = refl }))
+      wire-agrees t c g (Collecting.wroteTo k (cleared (c .wire))) (t .nextRead) (k + 1) [] (g .wire .nextRead) refl
+      (nothing-collected _ (record { none = refl; short = refl }))
 
   line-agrees : (k : ℕ) (l : Line) → Fits l → Agrees (afterwards (byte 13) (writesLine k l) a t) (answer (passed (Write k (WriteLine l))) c a .state)
   unfolding afterwards answer writing write toldWire toldPanel

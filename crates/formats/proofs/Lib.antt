@@ -6,3 +6,5 @@ pub mod NumbersRead
 pub mod Parts
 pub mod Bytes
 pub mod Places
+pub mod Writing
+pub mod DigitsWritten

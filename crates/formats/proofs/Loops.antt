@@ -1,17 +1,17 @@
--- Laws for the loops that read a number and that write a text.
+-- Laws for the loop that reads a number.
 -- Assumes nothing.
 use mathlib.Core.Path.{_≡_, refl, sym, ap, ap₂, _∙_}
-use Prim.Native.Nat.{ℕ, zero, suc, _+_, _-_, _*_, _/_, _%_, _^_, _≤_, _<_}
+use Prim.Native.Nat.{ℕ, zero, suc, _+_, _*_, _^_, _≤_, _<_}
 use native.Mathlib.Omega.{arith}
 use native.Mathlib.Numerals.{add-one}
-use native.Mathlib.Nat.{not-suc-le-zero, le-trans, mod-lt, pow-le-pow-left, pow-le-pow-right}
+use native.Mathlib.Nat.{not-suc-le-zero, le-trans, pow-le-pow-left, pow-le-pow-right}
 use mathlib.Core.Bool.{Bool, true, false, _&&_}
-use mathlib.Core.List.{List, [], _∷_, _++_, map, append-nil, append-assoc}
-use lib.ListN.{length, take, drop, getD, length-map}
+use mathlib.Core.List.{List, [], _∷_, _++_, map}
+use lib.ListN.{length, take, getD, length-map}
 use lib.Seq.{take-suc, take-all, length-take-le}
 use borrow.Author.Tests.{lt-ltb, le-ltb}
 use Rattle.formats.specs.Checks.{_>>_, _orElse_, all}
-use Rattle.formats.specs.Digits.{digits, numberAfter, number, digitChar, digitValue, isDigit, shown, numberIn}
+use Rattle.formats.specs.Digits.{digits, numberAfter, number, digitValue, isDigit, numberIn}
 use Rattle.formats.specs.declared.Number.the-variants.{Is, No}
 use Rattle.formats.specs.NumbersAndTexts.{numberOr}
 use Rattle.formats.proofs.Checks.{all-snoc}
@@ -86,32 +86,3 @@ pub more-fits-u32 : (base : ℕ) (cs : List ℕ) (i v d : ℕ) → base ≤ 16 �
     → d < base → v * base + d < 4294967296
 more-fits-u32 base cs i v d le two eight lt r is below =
     read-fits-u32 base cs (i + 1) (v * base + d) le two (omega arith) (omega arith) (read-more base cs i v d lt r is below)
-
--- ---- writing a text
-
--- a text copied to the start of an area
-pub text-put : (area chars : List ℕ) (len : ℕ) {area′ : List ℕ} → len ≤ length chars → area′ ≡ take len chars ++ drop len area
-    → (area′ ≡ take len chars ++ drop (length (take len chars)) area) × (len ≡ length (take len chars))
-text-put area chars len le e =
-    let n : length (take len chars) ≡ len = length-take-le len chars le in
-    (e ∙ rw n, sym n)
-
--- ---- showing a number, digit by digit
-
-pub digit-below : (v base : ℕ) → 2 ≤ base → v % base < base
-digit-below v base le = mod-lt v (omega arith)
-
-pub show-none : (t : List ℕ) (base n v : ℕ) → n ≡ 0 → t ≡ t ++ shown base n v
-unfolding shown digits
-show-none t base n v e = rw e (sym (append-nil t))
-
--- the text t, then the higher digits, then the last
-pub show-more : (t : List ℕ) (base n v : ℕ) {front all′ : List ℕ} {c : ℕ} → 1 ≤ n → front ≡ t ++ shown base (n - 1) (v / base) → c ≡ digitChar (v % base)
-    → all′ ≡ front ++ (c ∷ []) → all′ ≡ t ++ shown base n v
-unfolding shown digits
-show-more t base zero v le f d e = absurd (omega arith)
-show-more t base (suc n) v le f d e =
-    let one : suc n - 1 ≡ n = omega arith in
-    e ∙ ap₂ (λ l x. l ++ (x ∷ [])) (f ∙ ap (λ k. t ++ shown base k (v / base)) one) d
-    ∙ append-assoc t (shown base n (v / base)) (digitChar (v % base) ∷ [])
-    ∙ ap (λ l. t ++ l) (sym (map-snoc digitChar (digits base n (v / base)) (v % base)))

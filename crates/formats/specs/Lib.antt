@@ -2,3 +2,4 @@ pub mod Checks
 pub mod Digits
 pub mod Bytes
 pub mod NumbersAndTexts
+pub mod Writing

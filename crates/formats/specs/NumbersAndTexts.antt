@@ -1,13 +1,10 @@
--- The answers of the readers of a number, and a text of the code: what each stands for.
+-- The answers of the readers of a number: what each stands for.
 use Prim.Native.Nat.{ℕ}
-use mathlib.Core.List.{List}
-use lib.ListN.{take}
 use Rattle.formats.specs.Checks.{Res, refused, passed}
 use Rattle.formats.specs.declared.Number.{Number}
 use Rattle.formats.specs.declared.Number.the-variants.{Is, No}
 use Rattle.formats.specs.declared.Byte.{Byte}
 use Rattle.formats.specs.declared.Byte.the-variants.{Is as IsByte, Error}
-use Rattle.formats.specs.declared.Text.{Text}
 
 -- The number that was read, or the error e where none was. Which number e is depends on what was to be read, so whoever asks says it:
 -- E004 for an address, E003 for data.
@@ -18,6 +15,3 @@ numberOr e (Is v) = passed v
 abbrev pub byteOf : Res ℕ → Byte
 byteOf (refused e) = Error e
 byteOf (passed v) = IsByte v
-
-abbrev pub textOf : Text → List ℕ
-textOf t = take (t .len) (t .chars)

@@ -1,14 +1,15 @@
 // The formats in which numbers and texts stand in an area and on the wire: numbers in bytes, characters as digits, numbers read from
-// characters, and texts of at most 16 characters, the longest reply, that numbers are shown in.
+// characters, and text that is written into an area.
 // Definitions: specs/Digits.antt for what a number's digits are, specs/Bytes.antt for bytes in a row, specs/NumbersAndTexts.antt for what the types
-// below stand for.
+// below stand for, specs/Writing.antt for what writing into an area leaves there.
 ghost use mathlib.Core.Path.{_≡_};
 ghost use mathlib.Core.List.{[], _∷_, _++_};
 ghost use Prim.Native.Nat.{ℕ, _+_, _≤_, _<_};
 ghost use lib.ListN.{length, take, drop};
 ghost use Rattle.formats.specs.Digits.{number, digitValue, digitChar, shown, numberIn, hIn, dIn, errorText};
 ghost use Rattle.formats.specs.Bytes.{bytes};
-ghost use Rattle.formats.specs.NumbersAndTexts.{numberOr, byteOf, textOf};
+ghost use Rattle.formats.specs.NumbersAndTexts.{numberOr, byteOf};
+ghost use Rattle.formats.specs.Writing.{Wrote};
 
 // What characters stand for: a number, or none, which has its error's number from who asked.
 pub enum Number {
@@ -20,12 +21,6 @@ pub enum Number {
 pub enum Byte {
     Is(u8),
     Error(u8),
-}
-
-// The first `len` characters are the text.
-pub struct Text {
-    pub chars: [u8; 16],
-    pub len: usize,
 }
 
 // ---- bytes
@@ -154,55 +149,41 @@ pub fn d_in(cs: &[u8]) -> Byte
     Byte::Is(v as u8)
 }
 
-impl Text {
-    pub fn new() -> Text
-        ensures none { λ r. ⌜ (textOf r ≡ []) × (r .len ≡ 0) ⌝ }
-    {
-        Text {
-            chars: [0; 16],
-            len: 0,
-        }
-    }
+// ---- text in an area
+// Each writer below writes from place `at` on, leaves every other byte, and returns the place behind what it wrote.
 
-    // One character more.
-    pub fn with(mut self, c: u8) -> Text
-        requires { ⌜ self .len < 16 ⌝ }
-        ensures more { λ r. ⌜ (textOf r ≡ textOf self ++ (c ∷ [])) × (r .len ≡ self .len + 1) ⌝ }
-    {
-        let at = self.len;
-        self.chars[at] = c;
-        self.len = at + 1;
-        self
-    }
+// A character.
+pub fn put_char(area: &mut [u8], at: usize, c: u8) -> usize
+    requires { ⌜ at < length (now area) ⌝ }
+    ensures wrote { λ r. ⌜ Wrote at (c ∷ []) (now (area .entry)) r (now (area .exit)) ⌝ }
+    ensures near { λ r. ⌜ r ≡ at + 1 ⌝ }
+{
+    area[at] = c;
+    at + 1
+}
 
-    // A number more, in n digits to a base.
-    pub fn shown(self, base: u32, n: usize, v: u32) -> Text
-        requires { ⌜ (self .len + n ≤ 16) × (2 ≤ base) × (base ≤ 16) ⌝ }
-        ensures more { λ r. ⌜ (textOf r ≡ textOf self ++ shown base n v) × (r .len ≡ self .len + n) ⌝ }
-    {
-        if n == 0 {
-            return self;
-        }
-        let front = self.shown(base, n - 1, v / base);
-        let last = (v % base) as u8;
-        front.with(digit_char(last))
+// A number in n digits to a base, from the last to the first.
+pub fn put_digits(area: &mut [u8], at: usize, base: u32, n: usize, v: u32) -> usize
+    requires { ⌜ (at + n ≤ length (now area)) × (1 < base) × (base ≤ 16) ⌝ }
+    ensures wrote { λ r. ⌜ Wrote at (shown base n v) (now (area .entry)) r (now (area .exit)) ⌝ }
+    ensures near { λ r. ⌜ r ≡ at + n ⌝ }
+{
+    let mut i = n;
+    let mut rest = v;
+    while i > 0 {
+        i -= 1;
+        area[at + i] = digit_char((rest % base) as u8);
+        rest = rest / base;
     }
-
-    // The text is written to the start of an area, and the bytes after it stay. Its length is returned.
-    pub fn put(self, area: &mut [u8]) -> usize
-        requires { ⌜ (self .len ≤ 16) × (16 ≤ length (now area)) ⌝ }
-        ensures written { λ r. ⌜ (now (area .exit) ≡ textOf self ++ drop (length (textOf self)) (now (area .entry))) × (r ≡ length (textOf self)) ⌝ }
-    {
-        let len = self.len;
-        let chars = self.chars;
-        copy(&chars, area, len);
-        len
-    }
+    at + n
 }
 
 // E and the number of an error or a refusal in three digits.
-pub fn error_text(e: u8) -> Text
-    ensures text { λ r. ⌜ (textOf r ≡ errorText e) × (r .len ≡ 4) ⌝ }
+pub fn put_error(area: &mut [u8], at: usize, e: u8) -> usize
+    requires { ⌜ at + 4 ≤ length (now area) ⌝ }
+    ensures wrote { λ r. ⌜ Wrote at (errorText e) (now (area .entry)) r (now (area .exit)) ⌝ }
+    ensures near { λ r. ⌜ r ≡ at + 4 ⌝ }
 {
-    Text::new().with(b'E').shown(10, 3, e as u32)
+    let next = put_char(area, at, b'E');
+    put_digits(area, next, 10, 3, e as u32)
 }

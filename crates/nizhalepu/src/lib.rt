@@ -10,7 +10,8 @@ ghost use Rattle.controller.specs.Calls.{call};
 ghost use Rattle.controller.specs.Invariant.{Invariant};
 ghost use Rattle.deeds.specs.OnAreas.{areas};
 ghost use Rattle.nizhalepu.specs.InRecord.{inRecord};
-ghost use Rattle.reader.specs.Listing.{listingIn, Wrote};
+ghost use Rattle.formats.specs.Writing.{Wrote};
+ghost use Rattle.reader.specs.Listing.{listingIn};
 use calls::SwitchBox;
 
 // What a call says; the state stays in the record.

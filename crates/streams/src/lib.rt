@@ -185,9 +185,9 @@ impl Output {
     pub fn put_error(self, block: &mut [u8], e: u8, end: u8) -> Output
         ensures puts { λ r. ⌜ Puts self (now (block .entry)) (errorText e ++ (end ∷ [])) r (now (block .exit)) ⌝ }
     {
-        let line = formats::error_text(e).with(end);
-        let chars = line.chars;
-        let n = line.len;
-        self.put_first(block, &chars, n)
+        let mut line = [0u8; 5];
+        let next = formats::put_error(&mut line, 0, e);
+        let n = formats::put_char(&mut line, next, end);
+        self.put_first(block, &line, n)
     }
 }

@@ -65,7 +65,8 @@ pub record Sent (cs : List ℕ) (l : Line) : Type 0 where
   pub shows : lineText l ≡ cs
   pub fits : Fits l
 
-zeros : shown 10 2 0 ≡ text "00"
+-- the reserved digits
+pub zeros : shown 10 2 0 ≡ text "00"
 unfolding shown text Rattle.formats.specs.Digits.digits
 zeros = refl
 

@@ -1,13 +1,13 @@
 // A line on the wire: how it is shown, and how it is read, with the error where it is not one.
 // 01, 'Variables': "Wire forms: `S 00 X4 X3 X2 X1 TTTT`, `F C XXXX`, `N C`." Definitions: specs/Text.antt.
 ghost use mathlib.Core.Path.{_≡_};
-ghost use Prim.Native.Nat.{_≤_};
+ghost use Prim.Native.Nat.{_+_, _≤_};
 ghost use lib.ListN.{length};
-ghost use Rattle.formats.specs.NumbersAndTexts.{numberOr, textOf};
+ghost use Rattle.formats.specs.NumbersAndTexts.{numberOr};
+ghost use Rattle.formats.specs.Writing.{Wrote};
 ghost use Rattle.texts.specs.Text.{lineText, counterIn, stateIn, forIn, nextIn, lineIn};
 ghost use Rattle.texts.specs.ParsedLine.{parsedOf};
 use formats::Number;
-use formats::Text;
 use lines::Line;
 
 // What characters say: a line, or the number of the error.
@@ -16,23 +16,29 @@ pub enum Parsed {
     Error(u8),
 }
 
-// The characters of a line; none of a Bad one.
-pub fn line_text(l: Line) -> Text
-    ensures text { λ r. ⌜ (textOf r ≡ lineText l) × (r .len ≤ 15) ⌝ }
+// The characters of a line are written from place `at` on, none of a Bad one, and every other byte stays. The place behind them is returned.
+pub fn put_line_text(area: &mut [u8], at: usize, l: Line) -> usize
+    requires { ⌜ at + 15 ≤ length (now area) ⌝ }
+    ensures wrote { λ r. ⌜ Wrote at (lineText l) (now (area .entry)) r (now (area .exit)) ⌝ }
+    ensures near { λ r. ⌜ r ≤ at + 15 ⌝ }
 {
     match l {
-        Line::State { outputs, time } => Text::new()
-            .with(b'S')
-            .with(b'0')
-            .with(b'0')
-            .shown(16, 8, outputs)
-            .shown(10, 4, time as u32),
-        Line::For { counter, count } => Text::new()
-            .with(b'F')
-            .shown(10, 1, counter as u32)
-            .shown(10, 4, count as u32),
-        Line::Next { counter } => Text::new().with(b'N').shown(10, 1, counter as u32),
-        Line::Bad => Text::new(),
+        Line::State { outputs, time } => {
+            let letter = formats::put_char(area, at, b'S');
+            let reserved = formats::put_digits(area, letter, 10, 2, 0);
+            let word = formats::put_digits(area, reserved, 16, 8, outputs);
+            formats::put_digits(area, word, 10, 4, time as u32)
+        }
+        Line::For { counter, count } => {
+            let letter = formats::put_char(area, at, b'F');
+            let digit = formats::put_digits(area, letter, 10, 1, counter as u32);
+            formats::put_digits(area, digit, 10, 4, count as u32)
+        }
+        Line::Next { counter } => {
+            let letter = formats::put_char(area, at, b'N');
+            formats::put_digits(area, letter, 10, 1, counter as u32)
+        }
+        Line::Bad => at,
     }
 }
 

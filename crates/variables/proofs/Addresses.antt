@@ -1,4 +1,4 @@
--- Which address a read of `variables::value` has come to, where it is none of those that stand alone.
+-- Which address a read by `variables::put_value` has come to, where it is none of those that stand alone.
 -- Assumes nothing.
 use Prim.Native.Nat.{ℕ, _-_, _≤_}
 use mathlib.Core.Logic.{_≢_}

@@ -1,15 +1,14 @@
 // The 217 variables: those that stand for themselves, what a read of an address answers, and the output word with one of its bytes
 // written. 01, 'Variables', its table. Definitions: specs/Panel.antt, specs/Variables.antt.
 ghost use mathlib.Core.Path.{_≡_};
-ghost use Prim.Native.Nat.{_-_, _*_, _≤_};
+ghost use Prim.Native.Nat.{_+_, _-_, _*_, _≤_};
 ghost use lib.ListN.{length};
 ghost use Rattle.formats.specs.Digits.{h, d, 2d};
-ghost use Rattle.formats.specs.NumbersAndTexts.{textOf};
+ghost use Rattle.formats.specs.Writing.{Wrote};
 ghost use Rattle.lines.specs.Line.{readLine, bytesOf};
 ghost use Rattle.running.specs.Running.{counter};
 ghost use Rattle.variables.specs.Panel.{freshPanel, withSingle, withParameter, withSpecial, withEvent};
 ghost use Rattle.variables.specs.Variables.{lineOf, isBadAt, statusBits, outputByte, withOutputByte, value};
-use formats::Text;
 use lines::Line;
 use running::Run;
 
@@ -145,46 +144,63 @@ pub fn is_bad_at(panel: Panel, program: &[u8], k: u8) -> bool
     lines::is_bad(line_of(panel, program, k))
 }
 
+// ---- what a read shows, in an area
+// Each writer below writes from place `at` on, leaves every other byte, and returns the place behind what it wrote.
+
 // A byte in the format h, two hex digits.
-fn hex(v: u8) -> Text
-    ensures text { λ r. ⌜ (textOf r ≡ h v) × (r .len ≤ 15) ⌝ }
+fn put_hex(area: &mut [u8], at: usize, v: u8) -> usize
+    requires { ⌜ at + 2 ≤ length (now area) ⌝ }
+    ensures wrote { λ r. ⌜ Wrote at (h v) (now (area .entry)) r (now (area .exit)) ⌝ }
+    ensures near { λ r. ⌜ r ≡ at + 2 ⌝ }
 {
-    Text::new().shown(16, 2, v as u32)
+    formats::put_digits(area, at, 16, 2, v as u32)
 }
 
 // A byte in the format d, three decimal digits.
-fn decimal(v: u8) -> Text
-    ensures text { λ r. ⌜ (textOf r ≡ d v) × (r .len ≤ 15) ⌝ }
+fn put_decimal(area: &mut [u8], at: usize, v: u8) -> usize
+    requires { ⌜ at + 3 ≤ length (now area) ⌝ }
+    ensures wrote { λ r. ⌜ Wrote at (d v) (now (area .entry)) r (now (area .exit)) ⌝ }
+    ensures near { λ r. ⌜ r ≡ at + 3 ⌝ }
 {
-    Text::new().shown(10, 3, v as u32)
+    formats::put_digits(area, at, 10, 3, v as u32)
 }
 
 // The count at 213-216, in four decimal digits.
-fn count(run: Run, k: u8) -> Text
-    requires { ⌜ (213 ≤ k) × (k ≤ 216) ⌝ }
-    ensures text { λ r. ⌜ (textOf r ≡ 2d (counter run (k - 212) .count)) × (r .len ≤ 15) ⌝ }
+fn put_count(area: &mut [u8], at: usize, run: Run, k: u8) -> usize
+    requires { ⌜ (at + 4 ≤ length (now area)) × (213 ≤ k) × (k ≤ 216) ⌝ }
+    ensures wrote { λ r. ⌜ Wrote at (2d (counter run (k - 212) .count)) (now (area .entry)) r (now (area .exit)) ⌝ }
+    ensures near { λ r. ⌜ r ≡ at + 4 ⌝ }
 {
     let counters = run.counters;
     let counter = counters[(k - 213) as usize];
-    Text::new().shown(10, 4, counter.count as u32)
+    formats::put_digits(area, at, 10, 4, counter.count as u32)
 }
 
 // What a read of address k shows.
-pub fn value(panel: Panel, run: Run, paused: bool, program: &[u8], k: u8) -> Text
-    requires { ⌜ (length (now program) ≡ 1600) × (k ≤ 216) ⌝ }
-    ensures answer { λ r. ⌜ (textOf r ≡ value panel run paused (now (program .entry)) k) × (r .len ≤ 15) ⌝ }
+pub fn put_value(
+    area: &mut [u8],
+    at: usize,
+    panel: Panel,
+    run: Run,
+    paused: bool,
+    program: &[u8],
+    k: u8,
+) -> usize
+    requires { ⌜ (length (now program) ≡ 1600) × (k ≤ 216) × (at + 15 ≤ length (now area)) ⌝ }
+    ensures wrote { λ r. ⌜ Wrote at (value panel run paused (now (program .entry)) k) (now (area .entry)) r (now (area .exit)) ⌝ }
+    ensures near { λ r. ⌜ r ≤ at + 15 ⌝ }
 {
     match k {
-        0..=200 => texts::line_text(line_of(panel, program, k)),
-        201 => hex(status(panel.unread, run.on, paused)),
-        202 => hex(0),
-        203..=206 => hex(output_byte(run.outputs, k)),
-        207 => hex(0),
-        208 => decimal(0),
-        209 => decimal(panel.parameter),
-        210 => decimal(panel.special),
-        211 => decimal(run.line),
-        212 => decimal(panel.event),
-        _ => count(run, k),
+        0..=200 => texts::put_line_text(area, at, line_of(panel, program, k)),
+        201 => put_hex(area, at, status(panel.unread, run.on, paused)),
+        202 => put_hex(area, at, 0),
+        203..=206 => put_hex(area, at, output_byte(run.outputs, k)),
+        207 => put_hex(area, at, 0),
+        208 => put_decimal(area, at, 0),
+        209 => put_decimal(area, at, panel.parameter),
+        210 => put_decimal(area, at, panel.special),
+        211 => put_decimal(area, at, run.line),
+        212 => put_decimal(area, at, panel.event),
+        _ => put_count(area, at, run, k),
     }
 }

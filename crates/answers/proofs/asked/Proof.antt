@@ -2,13 +2,10 @@
 -- Assumes nothing.
 use mathlib.Core.Path.{sym, _∙_}
 use borrow.Author.Needs.{needs}
-use Rattle.controller.specs.Variables.{isBadAt}
-use Rattle.answers.proofs.Hearing.{by-the-checks, error-heard, write-heard, read-heard, bad-heard}
+use Rattle.variables.specs.Variables.{isBadAt}
+use Rattle.answers.proofs.Hearing.{error-heard, write-heard, read-heard, bad-heard}
 use Rattle.answers.proofs.asked.Statement.{statement}
 use Rattle.answers.proofs.asked.Tie as tie
-
-mode-of-requires : tie.Need-mode-of-requires
-mode-of-requires c κs = search needs
 
 command-requires : tie.Need-command-requires
 command-requires c κs = search needs
@@ -21,11 +18,9 @@ enum-told c = search needs
 
 returns : tie.Need-returns
 returns c =
-    let s = c .before .before .before .before .before .before .args in
-    let mode-of = c .before .before .before .mode-of in
+    let s = c .before .before .before .before .args in
     let command = c .before .before .command in
-    let checks = by-the-checks (s .c .wire) (s .c .panel .parameter) (command .ensures) (mode-of .ensures) in
-    error-heard (isBadAt (s .c) (s .program .now)) _ checks (c .enum-told .given .1)
+    error-heard (isBadAt (s .panel) (s .program .now)) _ (command .ensures) (c .enum-told .given .1)
 
 enum-known-q : tie.Need-enum-known-q
 enum-known-q c = search needs
@@ -35,43 +30,36 @@ enum-told-2 c = search needs
 
 returns-2 : tie.Need-returns-2
 returns-2 c =
-    let s = c .before .before .before .before .before .before .before .before .before .args in
-    let mode-of = c .before .before .before .before .before .before .mode-of in
+    let s = c .before .before .before .before .before .before .before .args in
     let command = c .before .before .before .before .before .command in
     let heard = c .before .before .before .heard in
-    let checks = by-the-checks (s .c .wire) (s .c .panel .parameter) (command .ensures) (mode-of .ensures) in
-    sym (heard .given .1) ∙ write-heard (isBadAt (s .c) (s .program .now)) _ checks (heard .given .1) (c .enum-told2 .given .1)
+    sym (heard .given .1) ∙ write-heard (isBadAt (s .panel) (s .program .now)) _ (command .ensures) (heard .given .1) (c .enum-told2 .given .1)
 
 is-bad-at-requires : tie.Need-is-bad-at-requires
 is-bad-at-requires c κs = search needs
 
 returns-3 : tie.Need-returns-3
 returns-3 c =
-    let s = c .before .before .before .before .before .before .before .before .before .before .before .before .args in
-    let mode-of = c .before .before .before .before .before .before .before .before .before .mode-of in
+    let s = c .before .before .before .before .before .before .before .before .before .before .args in
     let command = c .before .before .before .before .before .before .before .before .command in
     let heard = c .before .before .before .before .before .before .heard in
     let q = c .before .before .before .q in
-    let checks = by-the-checks (s .c .wire) (s .c .panel .parameter) (command .ensures) (mode-of .ensures) in
-    bad-heard (isBadAt (s .c) (s .program .now)) _ checks (heard .given .1) (q .given .1) (sym (c .before .is-bad-at .ensures) ∙ c .if1 .taken)
+    bad-heard (isBadAt (s .panel) (s .program .now)) _ (command .ensures) (heard .given .1) (q .given .1) (sym (c .before .is-bad-at .ensures) ∙ c .if1 .taken)
 
 returns-4 : tie.Need-returns-4
 returns-4 c =
-    let s = c .before .before .before .before .before .before .before .before .before .before .before .before .args in
-    let mode-of = c .before .before .before .before .before .before .before .before .before .mode-of in
+    let s = c .before .before .before .before .before .before .before .before .before .before .args in
     let command = c .before .before .before .before .before .before .before .before .command in
     let heard = c .before .before .before .before .before .before .heard in
     let q = c .before .before .before .q in
-    let checks = by-the-checks (s .c .wire) (s .c .panel .parameter) (command .ensures) (mode-of .ensures) in
     sym (heard .given .1)
-    ∙ read-heard (isBadAt (s .c) (s .program .now)) _ checks (heard .given .1) (q .given .1)
+    ∙ read-heard (isBadAt (s .panel) (s .program .now)) _ (command .ensures) (heard .given .1) (q .given .1)
     (sym (c .before .is-bad-at .ensures) ∙ c .if1 .left)
 
 pub asked-spec : {M : Type 1} → statement M
 asked-spec =
     tie.close
     (tie.spec
-    mode-of-requires
     command-requires
     enum-known-heard
     enum-told

@@ -1,17 +1,21 @@
--- `streams::Output::put_error` meets its contract.
+-- `streams::Output::put_error` meets its contract: the line is written into an array of its own, and that is gathered.
 -- Assumes nothing.
-use mathlib.Core.List.{List, [], _∷_, _++_}
-use mathlib.Core.Path.{ap, _∙_}
-use Prim.Native.Nat.{ℕ}
+use Rattle.formats.proofs.Writing.{wrote-more, wrote-start}
 use borrow.Author.Needs.{needs}
 use Rattle.streams.proofs.Output.put_error.Statement.{statement}
 use Rattle.streams.proofs.Output.put_error.Tie as tie
 
-error-text-requires : tie.Need-error-text-requires
-error-text-requires c κs = search needs
+slice-aggregate-put-error : tie.Need-slice-aggregate-put-error
+slice-aggregate-put-error c = search needs
 
-with-requires : tie.Need-with-requires
-with-requires c κs = search needs
+put-error-requires : tie.Need-put-error-requires
+put-error-requires c κs = search needs
+
+slice-aggregate-put-char : tie.Need-slice-aggregate-put-char
+slice-aggregate-put-char c = search needs
+
+put-char-requires : tie.Need-put-char-requires
+put-char-requires c κs = search needs
 
 slice-aggregate-put-first : tie.Need-slice-aggregate-put-first
 slice-aggregate-put-first c = search needs
@@ -24,18 +28,20 @@ same-length c = search needs
 
 returns : tie.Need-returns
 returns c =
-    let a = c .before .before .before .before .before .before .before .before .before .args in
+    let put-char = c .before .before .before .before .before .before .put-char in
     let put-first = c .before .before .put-first in
-    let made = c .before .before .before .before .before .before in
-    let line = made .with .ensures .0 ∙ ap (λ (t : List ℕ). t ++ (a .end ∷ [])) (made .before .error-text .ensures .0) in
-    rw line at (put-first .ensures)
+    let told = c .before .before .before .before .before .before .before .before .before .put-error .ensures .0 in
+    let line = wrote-more told (search needs) (put-char .ensures .0) in
+    rw (wrote-start line) at (put-first .ensures)
 
 pub put-error-spec : {M : Type 1} → statement M
 put-error-spec =
     tie.close
     (tie.spec
-    error-text-requires
-    with-requires
+    slice-aggregate-put-error
+    put-error-requires
+    slice-aggregate-put-char
+    put-char-requires
     slice-aggregate-put-first
     put-first-requires
     same-length
