@@ -18,10 +18,11 @@ static const char usage[] =
     "                                its text, each after its length (four bytes, high byte first), for\n"
     "                                python3 model/loglist.py --check FILE\n"
     "compare speed                   nanoseconds per call of both, on the same calls, and per log of both readers\n"
-    "compare stack                   bytes of stack that calls of both take\n"
+    "compare stack                   bytes of stack that calls of both take, and whether the proved box keeps under its limits\n"
     "compare limits                  the last tick count and the most changes that a gap can count; takes many minutes\n"
     "compare --help                  this text\n"
-    "Exit status: 0 equal, 1 a difference or a class of calls or logs never met, 2 bad usage or no FILE.\n";
+    "Exit status: 0 equal, 1 a difference, a class of calls or logs never met or a stack over its limit, 2 bad usage or\n"
+    "no FILE.\n";
 
 static int bad_usage(void)
 {

@@ -13,7 +13,7 @@ use borrow.Author.Tests.{lt-ltb, le-ltb}
 use Rattle.formats.specs.Checks.{_>>_, _orElse_, all}
 use Rattle.formats.specs.Digits.{digits, numberAfter, number, digitValue, isDigit, numberIn}
 use Rattle.formats.specs.declared.Number.the-variants.{Is, No}
-use Rattle.formats.specs.NumbersAndTexts.{numberOr}
+use Rattle.formats.specs.Numbers.{numberOr}
 use Rattle.formats.proofs.Checks.{all-snoc}
 use Rattle.formats.proofs.Digits.{number-snoc, number-below}
 use Rattle.formats.proofs.Characters.{all-values}

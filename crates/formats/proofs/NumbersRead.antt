@@ -9,7 +9,7 @@ use Rattle.formats.specs.Digits.{numberIn}
 use Rattle.formats.specs.declared.Number.{Number}
 use Rattle.formats.specs.declared.Byte.{Byte}
 use Rattle.formats.specs.declared.Byte.the-variants.{Is as IsByte, Error}
-use Rattle.formats.specs.NumbersAndTexts.{numberOr, byteOf}
+use Rattle.formats.specs.Numbers.{numberOr, byteOf}
 use Rattle.formats.proofs.Checks.{ok-at}
 use Rattle.formats.proofs.Characters.{read-fits}
 

@@ -1,5 +1,5 @@
 pub mod Checks
 pub mod Digits
 pub mod Bytes
-pub mod NumbersAndTexts
+pub mod Numbers
 pub mod Writing

@@ -1,6 +1,6 @@
 // The formats in which numbers and texts stand in an area and on the wire: numbers in bytes, characters as digits, numbers read from
 // characters, and text that is written into an area.
-// Definitions: specs/Digits.antt for what a number's digits are, specs/Bytes.antt for bytes in a row, specs/NumbersAndTexts.antt for what the types
+// Definitions: specs/Digits.antt for what a number's digits are, specs/Bytes.antt for bytes in a row, specs/Numbers.antt for what the types
 // below stand for, specs/Writing.antt for what writing into an area leaves there.
 ghost use mathlib.Core.Path.{_≡_};
 ghost use mathlib.Core.List.{[], _∷_, _++_};
@@ -8,7 +8,7 @@ ghost use Prim.Native.Nat.{ℕ, _+_, _≤_, _<_};
 ghost use lib.ListN.{length, take, drop};
 ghost use Rattle.formats.specs.Digits.{number, digitValue, digitChar, shown, numberIn, hIn, dIn, errorText};
 ghost use Rattle.formats.specs.Bytes.{bytes};
-ghost use Rattle.formats.specs.NumbersAndTexts.{numberOr, byteOf};
+ghost use Rattle.formats.specs.Numbers.{numberOr, byteOf};
 ghost use Rattle.formats.specs.Writing.{Wrote};
 
 // What characters stand for: a number, or none, which has its error's number from who asked.

@@ -3,7 +3,7 @@
 ghost use mathlib.Core.Path.{_≡_};
 ghost use Prim.Native.Nat.{_+_, _≤_};
 ghost use lib.ListN.{length};
-ghost use Rattle.formats.specs.NumbersAndTexts.{numberOr};
+ghost use Rattle.formats.specs.Numbers.{numberOr};
 ghost use Rattle.formats.specs.Writing.{Wrote};
 ghost use Rattle.texts.specs.Text.{lineText, counterIn, stateIn, forIn, nextIn, lineIn};
 ghost use Rattle.texts.specs.ParsedLine.{parsedOf};

@@ -5,7 +5,7 @@ ghost use mathlib.Core.Bool.{true, _||_};
 ghost use Prim.Native.Nat.{_≤_};
 ghost use lib.Dec.{eqb};
 ghost use lib.ListN.{length, drop};
-ghost use Rattle.formats.specs.NumbersAndTexts.{byteOf};
+ghost use Rattle.formats.specs.Numbers.{byteOf};
 ghost use Rattle.wire.specs.Command.{isStepwise, hasAddress, rest, addressIn, isWritable, isOpen};
 use formats::Byte;
 use formats::Number;
