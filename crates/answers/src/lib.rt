@@ -1,20 +1,19 @@
 // What a finished command asks for, and the reply to it, which is written straight into the area that is lent for it.
-// Definitions: those of the layer `controller`, specs/Deeds.antt; specs/Asking.antt for what a command asks by the parts of the state. An
-// area that a function is not lent stays, whatever it holds.
+// Definitions: those of the layer `controller`, specs/Deeds.antt, of every state that has the parts which a function is given. An area that a
+// function is not lent stays, whatever it holds.
 ghost use mathlib.Core.Path.{_≡_};
-ghost use mathlib.Core.Bool.{false};
 ghost use Prim.Native.Nat.{_≤_};
 ghost use lib.ListN.{length};
-ghost use lib.Dec.{eqb};
-ghost use Rattle.formats.specs.Checks.{if_then_else_, text};
+ghost use Rattle.formats.specs.Checks.{text};
 ghost use Rattle.formats.specs.Digits.{errorText};
 ghost use Rattle.formats.specs.Writing.{Wrote};
-ghost use Rattle.variables.specs.Panel.{withEvent};
+ghost use Rattle.special.specs.Special.{modeOf};
 ghost use Rattle.variables.specs.Variables.{value};
 ghost use Rattle.wire.specs.Invariant.{WireInvariant};
 ghost use Rattle.wire.specs.HeardCommand.{heardOf};
-ghost use Rattle.controller.specs.Deeds.{ended};
-ghost use Rattle.answers.specs.Asking.{askedBy};
+ghost use Rattle.controller.specs.declared.Controller.{Controller};
+ghost use Rattle.controller.specs.Controller.{withPanel};
+ghost use Rattle.controller.specs.Deeds.{read, ended, asked};
 use running::Run;
 use special::Mode;
 use variables::Panel;
@@ -25,7 +24,8 @@ use wire::Wire;
 // What the command collected so far asks for, by the seven checks; a read of a Bad line, behind them, is E024.
 pub fn asked(w: Wire, mode: Mode, panel: Panel, program: &[u8]) -> Heard
     requires { ⌜ WireInvariant w × (length (now program) ≡ 1600) ⌝ }
-    ensures heard { λ r. ⌜ r ≡ heardOf (askedBy w mode panel (now (program .entry))) ⌝ }
+    ensures heard { λ r. ⌜ ((c : Controller) → c .wire ≡ w → modeOf (c .run .on) (c .paused) ≡ mode → c .panel ≡ panel
+        → r ≡ heardOf (asked c (now (program .entry)))) ⌝ }
 {
     let heard = wire::command(w, mode, panel.parameter);
     let Heard::Is(q) = heard else {
@@ -40,9 +40,9 @@ pub fn asked(w: Wire, mode: Mode, panel: Panel, program: &[u8]) -> Heard
     heard
 }
 
-// A read of 212 clears the event.
-pub fn having_read(panel: Panel, k: u8) -> Panel
-    ensures panel { λ r. ⌜ r ≡ (if eqb k 212 then withEvent 0 false panel else panel) ⌝ }
+// The panel after a read of k: that of 212 clears the event.
+pub fn panel_read(panel: Panel, k: u8) -> Panel
+    ensures panel { λ r. ⌜ ((c : Controller) → withPanel r c ≡ read k (withPanel panel c)) ⌝ }
 {
     if k == 212 {
         return panel.with_event(0, false);

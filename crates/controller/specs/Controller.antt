@@ -61,6 +61,10 @@ pub record Areas : Type 0 where
   pub log : List ℕ
   pub out : List ℕ
 
+-- the four, one by one
+abbrev pub areas : List ℕ → List ℕ → List ℕ → List ℕ → Areas
+areas program saved log out = record { program = program; saved = saved; log = log; out = out }
+
 abbrev pub withProgram : List ℕ → Areas → Areas
 withProgram x a = record { program = x; saved = a .saved; log = a .log; out = a .out }
 

@@ -1,2 +1,1 @@
-pub mod OnAreas
 pub mod Moving

@@ -17,7 +17,7 @@ use Rattle.wire.specs.Invariant.{WireInvariant}
 use Rattle.wire.proofs.Collecting.{kept-last, kept-short, overlong-sent, kept-none, space-dropped}
 use Rattle.controller.proofs.Wires.{Empty}
 
--- the wire holds the characters cs
+-- the wire holds the first 32 of the characters cs, in capitals, and whether there are more
 pub record Collects (cs : List ℕ) (w : Wire) : Type 0 where
   pub first : sent w ≡ map capital (take mostChars cs)
   pub more : w .overlong ≡ ltb mostChars (length cs)

@@ -8,7 +8,7 @@ ghost use Rattle.controller.specs.Controller.{fresh};
 ghost use Rattle.controller.specs.Refusals.{powerOn, byte, tick, press, emptying};
 ghost use Rattle.controller.specs.Calls.{call};
 ghost use Rattle.controller.specs.Invariant.{Invariant};
-ghost use Rattle.deeds.specs.OnAreas.{areas};
+ghost use Rattle.controller.specs.Controller.{areas};
 ghost use Rattle.nizhalepu.specs.InRecord.{inRecord};
 ghost use Rattle.formats.specs.Writing.{Wrote};
 ghost use Rattle.reader.specs.Listing.{listingIn};

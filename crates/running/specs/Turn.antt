@@ -21,6 +21,6 @@ counterOf Bad = 0
 abbrev pub turned : ℕ → Turn → Run → Step
 turned c t r = record { run = atLine (t .line) (withCounter c (t .held) r); how = t .how }
 
--- On line k, with its counter as `held`, line l leads to the turn t, whatever else the run is.
+-- On line k, with its counter as `held`, line l, a For or a Next, leads to the turn t, whatever else the run is.
 abbrev pub Leads : List ℕ → Line → ℕ → Counter → Turn → Type 0
 Leads p l k held t = (r : Run) → r .line ≡ k → counter r (counterOf l) ≡ held → turned (counterOf l) t r ≡ runLine p l r

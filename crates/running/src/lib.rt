@@ -1,17 +1,17 @@
 // The part of the box that a running program moves, and what a start and a tick do to it.
-// A run is passed by value, once for a call and not for each line. A call that runs no line reads nothing of the program.
+// A run is passed by value, some times in a call and never for a For or a Next. A call that runs no line reads nothing of the program.
 ghost use mathlib.Core.Path.{_≡_};
 ghost use mathlib.Core.Bool.{true};
 ghost use mathlib.Core.List.{[]};
-ghost use Prim.Native.Nat.{ℕ, _<_};
+ghost use Prim.Native.Nat.{_<_};
 ghost use lib.ListN.{length};
-ghost use Rattle.lines.specs.declared.Line.the-variants.{State, For, Next};
-ghost use Rattle.running.specs.declared.Run.{Run};
-ghost use Rattle.running.specs.Running.{free, allFree, freshRun, begun, atLine, withOutputs, withCounter, stopped, onward, runLine};
-ghost use Rattle.running.specs.Running.{isForOrNext, stops, runDue, start, tick};
-ghost use Rattle.running.specs.Turn.{counterOf, turned, Leads};
+ghost use Rattle.lines.specs.declared.Line.the-variants.{State};
+ghost use Rattle.running.specs.Running.{free, allFree, freshRun, begun, withOutputs, stopped, onward, runLine};
+ghost use Rattle.running.specs.Running.{stops, runDue, start, tick};
 ghost use Rattle.running.specs.Invariant.{RunInvariant};
 use lines::Line;
+
+mod loops;
 
 // A loop counter: 0 when free, and the line of the For that holds it.
 #[repr(C)]
@@ -63,22 +63,7 @@ pub struct Ran {
     pub lines: u16,
 }
 
-// ---- one line
-
-// The counter of a For or a Next; 0 for a State and a Bad line, which name none: with these a call ends.
-fn counter_of(line: Line) -> u8
-    ensures number { λ r. ⌜ r ≡ counterOf line ⌝ }
-{
-    match line {
-        Line::State {
-            outputs: _,
-            time: _,
-        } => 0,
-        Line::For { counter, count: _ } => counter,
-        Line::Next { counter } => counter,
-        Line::Bad => 0,
-    }
-}
+// ---- counters
 
 // A counter that is free.
 fn free() -> Counter
@@ -93,95 +78,6 @@ fn all_free() -> [Counter; 4]
 {
     let one = free();
     [one; 4]
-}
-
-// To the line after k; past line 199 the program ends with event 009.
-fn past(held: Counter, k: u8) -> Turn
-    ensures turn { λ r. ⌜ ((c : ℕ) (s : Run) → turned c r s ≡ onward (atLine k (withCounter c held s))) ⌝ }
-{
-    if k < 199 {
-        let after = k + 1;
-        return Turn {
-            held,
-            line: after,
-            how: How::GoesOn,
-        };
-    }
-    Turn {
-        held,
-        line: k,
-        how: How::Ends(9),
-    }
-}
-
-// A For line takes its counter and goes on; with a busy counter event 006, with no later Next of it event 007. With count 0000 it
-// takes none and goes on from that Next.
-fn turn_for(p: &[u8], counter: u8, count: u16, k: u8, held: Counter) -> Turn
-    requires { ⌜ (length (now p) ≡ 1600) × (k < 200) ⌝ }
-    ensures turn { λ r. ⌜ Leads (now (p .entry)) (For counter count) k held r ⌝ }
-{
-    let busy = held.count;
-    if 0 < busy {
-        return Turn {
-            held,
-            line: k,
-            how: How::Ends(6),
-        };
-    }
-    let next = lines::next_after(p, counter, k);
-    if next == 200 {
-        return Turn {
-            held,
-            line: k,
-            how: How::Ends(7),
-        };
-    }
-    if count == 0 {
-        return past(held, next);
-    }
-    past(Counter { count, line: k }, k)
-}
-
-// A Next line takes one off its counter: above zero to the line after the For, at zero on; with a free counter event 008. The count alone
-// says that it is free, whatever stands above in the text.
-fn turn_next(k: u8, held: Counter) -> Turn
-    requires { ⌜ held .line < 199 ⌝ }
-    ensures turn { λ r. ⌜ ((c : ℕ) → Leads [] (Next c) k held r) ⌝ }
-{
-    let rounds = held.count;
-    if rounds == 0 {
-        return Turn {
-            held,
-            line: k,
-            how: How::Ends(8),
-        };
-    }
-    let from = held.line;
-    let left = rounds - 1;
-    if 0 < left {
-        let back = from + 1;
-        return Turn {
-            held: Counter {
-                count: left,
-                line: from,
-            },
-            line: back,
-            how: How::GoesOn,
-        };
-    }
-    let none = free();
-    past(none, k)
-}
-
-// The line that is due, a For or a Next, which was read already.
-fn turn_of(p: &[u8], line: Line, k: u8, held: Counter) -> Turn
-    requires { ⌜ (length (now p) ≡ 1600) × (k < 200) × (held .line < 199) × (isForOrNext line ≡ true) ⌝ }
-    ensures turn { λ r. ⌜ Leads (now (p .entry)) line k held r ⌝ }
-{
-    if let Line::For { counter, count } = line {
-        return turn_for(p, counter, count, k, held);
-    }
-    turn_next(k, held)
 }
 
 impl Run {
@@ -327,14 +223,14 @@ impl Run {
         while n < 400 {
             let k = run.line;
             let line = lines::line_at(p, k as usize);
-            let counter = counter_of(line);
+            let counter = loops::counter_of(line);
             if counter == 0 {
                 break;
             }
             n += 1;
             let c = (counter - 1) as usize;
             let before = run.counters[c];
-            let t = turn_of(p, line, k, before);
+            let t = loops::turn_of(p, line, k, before);
             let held = t.held;
             run.counters[c] = held;
             run.line = t.line;

@@ -44,11 +44,12 @@ pub kept-short : (x : ℕ) (w : Wire) → eqb x 32 ≡ false → w .len < mostCh
 unfolding collect
 kept-short x w other lt = rw (other, lt-ltb (w .len) mostChars lt)
 
--- A character for which there is no room makes it overlong, and alters nothing else: not the command
+-- Overlong or not, the command is the same.
 pub overlong-sent : (w : Wire) → sent (tooLong w) ≡ sent w
 unfolding sent
 overlong-sent w = refl
 
+-- A character for which there is no room makes it overlong, and alters nothing else.
 pub kept-none : (x : ℕ) (w : Wire) → eqb x 32 ≡ false → mostChars ≤ w .len → collect x w ≡ tooLong w
 unfolding collect
 kept-none x w other le = rw (other, le-ltb (w .len) mostChars le)

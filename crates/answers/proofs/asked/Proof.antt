@@ -3,7 +3,7 @@
 use mathlib.Core.Path.{sym, _∙_}
 use borrow.Author.Needs.{needs}
 use Rattle.variables.specs.Variables.{isBadAt}
-use Rattle.answers.proofs.Hearing.{error-heard, write-heard, read-heard, bad-heard}
+use Rattle.answers.proofs.Hearing.{error-heard, write-heard, read-heard, bad-heard, heard-of}
 use Rattle.answers.proofs.asked.Statement.{statement}
 use Rattle.answers.proofs.asked.Tie as tie
 
@@ -20,7 +20,7 @@ returns : tie.Need-returns
 returns c =
     let s = c .before .before .before .before .args in
     let command = c .before .before .command in
-    error-heard (isBadAt (s .panel) (s .program .now)) _ (command .ensures) (c .enum-told .given .1)
+    λ k e f g. heard-of k (s .program .now) e f g (error-heard (isBadAt (s .panel) (s .program .now)) _ (command .ensures) (c .enum-told .given .1))
 
 enum-known-q : tie.Need-enum-known-q
 enum-known-q c = search needs
@@ -33,7 +33,9 @@ returns-2 c =
     let s = c .before .before .before .before .before .before .before .args in
     let command = c .before .before .before .before .before .command in
     let heard = c .before .before .before .heard in
-    sym (heard .given .1) ∙ write-heard (isBadAt (s .panel) (s .program .now)) _ (command .ensures) (heard .given .1) (c .enum-told2 .given .1)
+    λ k e f g. heard-of k (s .program .now) e f g
+    (sym (heard .given .1)
+    ∙ write-heard (isBadAt (s .panel) (s .program .now)) _ (command .ensures) (heard .given .1) (c .enum-told2 .given .1))
 
 is-bad-at-requires : tie.Need-is-bad-at-requires
 is-bad-at-requires c κs = search needs
@@ -44,7 +46,9 @@ returns-3 c =
     let command = c .before .before .before .before .before .before .before .before .command in
     let heard = c .before .before .before .before .before .before .heard in
     let q = c .before .before .before .q in
-    bad-heard (isBadAt (s .panel) (s .program .now)) _ (command .ensures) (heard .given .1) (q .given .1) (sym (c .before .is-bad-at .ensures) ∙ c .if1 .taken)
+    λ k e f g. heard-of k (s .program .now) e f g
+    (bad-heard (isBadAt (s .panel) (s .program .now)) _ (command .ensures) (heard .given .1) (q .given .1)
+    (sym (c .before .is-bad-at .ensures) ∙ c .if1 .taken))
 
 returns-4 : tie.Need-returns-4
 returns-4 c =
@@ -52,9 +56,10 @@ returns-4 c =
     let command = c .before .before .before .before .before .before .before .before .command in
     let heard = c .before .before .before .before .before .before .heard in
     let q = c .before .before .before .q in
-    sym (heard .given .1)
+    λ k e f g. heard-of k (s .program .now) e f g
+    (sym (heard .given .1)
     ∙ read-heard (isBadAt (s .panel) (s .program .now)) _ (command .ensures) (heard .given .1) (q .given .1)
-    (sym (c .before .is-bad-at .ensures) ∙ c .if1 .left)
+    (sym (c .before .is-bad-at .ensures) ∙ c .if1 .left))
 
 pub asked-spec : {M : Type 1} → statement M
 asked-spec =

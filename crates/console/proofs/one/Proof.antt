@@ -2,7 +2,7 @@
 -- Assumes nothing.
 use mathlib.Core.List.{[]}
 use Rattle.controller.specs.Refusals as Calls
-use Rattle.deeds.specs.OnAreas.{areas}
+use Rattle.controller.specs.Controller.{areas}
 use Rattle.calls.proofs.Kept.{call-kept}
 use borrow.Author.Needs.{needs}
 use Rattle.console.proofs.one.Statement.{statement}

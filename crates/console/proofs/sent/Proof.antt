@@ -1,7 +1,7 @@
 -- `console::sent` keeps the invariant.
 -- Assumes nothing.
 use Rattle.controller.specs.Refusals as Calls
-use Rattle.deeds.specs.OnAreas.{areas}
+use Rattle.controller.specs.Controller.{areas}
 use Rattle.calls.proofs.Kept.{call-kept}
 use borrow.Author.Needs.{needs}
 use Rattle.console.proofs.sent.Statement.{statement}

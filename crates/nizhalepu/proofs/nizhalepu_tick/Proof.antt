@@ -50,7 +50,7 @@ use Rattle.calls.proofs.SwitchBox as T
 use Rattle.calls.proofs.SwitchBox.Laws as T′
 use Rattle.calls.proofs.Returned as O
 use Rattle.calls.proofs.Returned.Laws as O′
-use Rattle.deeds.specs.OnAreas.{areas}
+use Rattle.controller.specs.Controller.{areas}
 use Rattle.calls.specs.Returns.{after}
 use Rattle.nizhalepu.proofs.Said as S
 use Rattle.nizhalepu.proofs.Said.Laws as S′

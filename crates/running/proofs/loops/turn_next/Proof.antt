@@ -1,12 +1,12 @@
--- `running::turn_next` meets its contract: each way out by its tests.
+-- `running::loops::turn_next` meets its contract: each way out by its tests.
 -- Assumes nothing.
 use mathlib.Core.Path.{_∙_}
 use borrow.Author.Tests.{ne-eqb, lt-ltb, le-ltb}
 use borrow.Author.Needs.{needs}
 use Rattle.running.specs.Running.{runLine}
 use Rattle.running.proofs.Turns.{stays}
-use Rattle.running.proofs.turn_next.Statement.{statement}
-use Rattle.running.proofs.turn_next.Tie as tie
+use Rattle.running.proofs.loops.turn_next.Statement.{statement}
+use Rattle.running.proofs.loops.turn_next.Tie as tie
 
 returns : tie.Need-returns
 unfolding runLine

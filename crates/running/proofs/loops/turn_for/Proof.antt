@@ -1,12 +1,12 @@
--- `running::turn_for` meets its contract: each way out by its tests.
+-- `running::loops::turn_for` meets its contract: each way out by its tests.
 -- Assumes nothing.
 use mathlib.Core.Path.{sym, _∙_}
 use borrow.Author.Tests.{eq-eqb, ne-eqb, lt-ltb, le-ltb}
 use borrow.Author.Needs.{needs}
 use Rattle.running.specs.Running.{runLine}
 use Rattle.running.proofs.Turns.{unchanged, stays}
-use Rattle.running.proofs.turn_for.Statement.{statement}
-use Rattle.running.proofs.turn_for.Tie as tie
+use Rattle.running.proofs.loops.turn_for.Statement.{statement}
+use Rattle.running.proofs.loops.turn_for.Tie as tie
 
 returns : tie.Need-returns
 unfolding runLine

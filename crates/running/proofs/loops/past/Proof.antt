@@ -1,10 +1,10 @@
--- `running::past` meets its contract: by the test of the line.
+-- `running::loops::past` meets its contract: by the test of the line.
 -- Assumes nothing.
 use borrow.Author.Tests.{lt-ltb, le-ltb}
 use borrow.Author.Needs.{needs}
 use Rattle.running.specs.Running.{onward}
-use Rattle.running.proofs.past.Statement.{statement}
-use Rattle.running.proofs.past.Tie as tie
+use Rattle.running.proofs.loops.past.Statement.{statement}
+use Rattle.running.proofs.loops.past.Tie as tie
 
 add-after : tie.Need-add-after
 add-after c = search needs

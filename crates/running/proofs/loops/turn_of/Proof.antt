@@ -1,9 +1,9 @@
--- `running::turn_of` meets its contract: by the kind of line.
+-- `running::loops::turn_of` meets its contract: by the kind of line.
 -- Assumes nothing.
 use borrow.Author.Needs.{needs}
 use Rattle.running.proofs.Turns.{other-next}
-use Rattle.running.proofs.turn_of.Statement.{statement}
-use Rattle.running.proofs.turn_of.Tie as tie
+use Rattle.running.proofs.loops.turn_of.Statement.{statement}
+use Rattle.running.proofs.loops.turn_of.Tie as tie
 
 enum-known-line : tie.Need-enum-known-line
 enum-known-line c = search needs

@@ -1,0 +1,119 @@
+// A For and a Next, each by what it needs of the run: the number of its line and its own counter.
+// Definitions: `runLine` of specs/Running.antt; specs/Turn.antt for how a turn is put back into the run.
+ghost use mathlib.Core.Path.{_≡_};
+ghost use mathlib.Core.Bool.{true};
+ghost use mathlib.Core.List.{[]};
+ghost use Prim.Native.Nat.{ℕ, _<_};
+ghost use lib.ListN.{length};
+ghost use Rattle.lines.specs.declared.Line.the-variants.{For, Next};
+ghost use Rattle.running.specs.declared.Run.{Run};
+ghost use Rattle.running.specs.Running.{atLine, withCounter, onward, isForOrNext};
+ghost use Rattle.running.specs.Turn.{counterOf, turned, Leads};
+use crate::Counter;
+use crate::How;
+use crate::Turn;
+use lines::Line;
+
+// The counter of a For or a Next; 0 for a State and a Bad line, which name none: with these a call ends.
+pub fn counter_of(line: Line) -> u8
+    ensures number { λ r. ⌜ r ≡ counterOf line ⌝ }
+{
+    match line {
+        Line::State {
+            outputs: _,
+            time: _,
+        } => 0,
+        Line::For { counter, count: _ } => counter,
+        Line::Next { counter } => counter,
+        Line::Bad => 0,
+    }
+}
+
+// To the line after k; past line 199 the program ends with event 009.
+fn past(held: Counter, k: u8) -> Turn
+    ensures turn { λ r. ⌜ ((c : ℕ) (s : Run) → turned c r s ≡ onward (atLine k (withCounter c held s))) ⌝ }
+{
+    if k < 199 {
+        let after = k + 1;
+        return Turn {
+            held,
+            line: after,
+            how: How::GoesOn,
+        };
+    }
+    Turn {
+        held,
+        line: k,
+        how: How::Ends(9),
+    }
+}
+
+// A For line takes its counter and goes on; with a busy counter event 006, with no later Next of it event 007. With count 0000 it
+// takes none and goes on from that Next.
+fn turn_for(p: &[u8], counter: u8, count: u16, k: u8, held: Counter) -> Turn
+    requires { ⌜ (length (now p) ≡ 1600) × (k < 200) ⌝ }
+    ensures turn { λ r. ⌜ Leads (now (p .entry)) (For counter count) k held r ⌝ }
+{
+    let busy = held.count;
+    if 0 < busy {
+        return Turn {
+            held,
+            line: k,
+            how: How::Ends(6),
+        };
+    }
+    let next = lines::next_after(p, counter, k);
+    if next == 200 {
+        return Turn {
+            held,
+            line: k,
+            how: How::Ends(7),
+        };
+    }
+    if count == 0 {
+        return past(held, next);
+    }
+    past(Counter { count, line: k }, k)
+}
+
+// A Next line takes one off its counter: above zero to the line after the For, at zero on; with a free counter event 008. The count alone
+// says that it is free, whatever stands above in the text.
+fn turn_next(k: u8, held: Counter) -> Turn
+    requires { ⌜ held .line < 199 ⌝ }
+    ensures turn { λ r. ⌜ ((c : ℕ) → Leads [] (Next c) k held r) ⌝ }
+{
+    let rounds = held.count;
+    if rounds == 0 {
+        return Turn {
+            held,
+            line: k,
+            how: How::Ends(8),
+        };
+    }
+    let from = held.line;
+    let left = rounds - 1;
+    if 0 < left {
+        let back = from + 1;
+        return Turn {
+            held: Counter {
+                count: left,
+                line: from,
+            },
+            line: back,
+            how: How::GoesOn,
+        };
+    }
+    let none = crate::free();
+    past(none, k)
+}
+
+// The line that is due, a For or a Next, which was read already.
+pub fn turn_of(p: &[u8], line: Line, k: u8, held: Counter) -> Turn
+    requires { ⌜ (length (now p) ≡ 1600) × (k < 200) × (held .line < 199) × (isForOrNext line ≡ true) ⌝ }
+    ensures turn { λ r. ⌜ Leads (now (p .entry)) line k held r ⌝ }
+{
+    if let Line::For { counter, count } = line {
+        return turn_for(p, counter, count, k, held);
+    }
+    turn_next(k, held)
+}
