@@ -28,6 +28,10 @@ tested programs log test number = lent programs log >> (test orElse number)
 abbrev pub refusing : ℕ → SwitchBox → Returned
 refusing n b = record { next = b; refusal = n; lines = 0; written = 0 }
 
+-- a deed: the state after it, the lines run, the bytes written, and the areas
+abbrev pub deed : Controller → ℕ → ℕ → Areas → Deed
+deed c lines written a = record { state = c; areas = a; lines = lines; written = written }
+
 -- the state after a call that made no change to log, with the bytes written and the areas
 abbrev pub quiet : Controller → ℕ → Areas → After
 quiet c n a = record { state = c; refusal = 0; lines = 0; written = n; areas = a }
