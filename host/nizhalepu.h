@@ -1,9 +1,9 @@
 /* nizhalepu.h: the proved controller of a 32-way switch box, for a main loop in C.
  *
  * Link with target/staticlib/libnizhalepu.a (x86-64), which `rt staticlib nizhalepu` proves and makes; all
- * that it needs of a C library is memcpy. The rules are those of document 01 and of document 02, items 1 (the
- * log as text), 2 (a loop of none), 3 (why a special command was not taken) and 4 (a bad stored line); the
- * Rattle source of these calls, with their contracts, is crates/nizhalepu/src/lib.rt.
+ * that it may need of a C library is memcpy. The rules are those of document 01 and of document 02, items 1 (the
+ * log as text), 2 (a loop of none), 3 (why a special command was not taken), 4 (a bad stored line) and 5 (less
+ * stack); the Rattle source of these calls, with their contracts, is crates/nizhalepu/src/lib.rt.
  *
  * Who owns what. The caller owns the record and every area. The library keeps no pointer, allocates
  * nothing, has no data of its own but constants and calls nothing back; each call ends.
@@ -18,6 +18,8 @@
  * - Alter neither the program area nor the log between calls. Every call still does what document 01
  *   says if it happens, but what the box then runs and tells is what the areas hold.
  * - Make one call at a time on one record.
+ * - Have room for it on the stack: as it is built here a byte takes at most 760 bytes and a tick 352
+ *   (docs/SPEED.md). That is measured, and no part of what is proved.
  */
 #ifndef NIZHALEPU_H
 #define NIZHALEPU_H

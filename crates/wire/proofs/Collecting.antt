@@ -22,7 +22,7 @@ collect-kept x w i =
     if-case WireInvariant (ltb (w .len) mostChars)
     (λ e.
     record {
-      whole = length-set (w .chars) (w .len) (capital x) ∙ i .whole;
+      whole = length-set (w .chars) (w .len) _ ∙ i .whole;
       fits = omega (arith, ltb-true (w .len) mostChars e);
       nextRead = i .nextRead;
       nextWrite = i .nextWrite;
