@@ -294,6 +294,14 @@ static void test_wire(void) {
     want.wire.len = 1;
     want.wire.chars[0] = 'Z';
     check_record("a small letter is kept as its capital");
+    send("a");
+    want.wire.len = 2;
+    want.wire.chars[1] = 'A';
+    check_record("and the first of them too");
+    check_said(send_byte(0xE1), 0, 0, 0);
+    want.wire.len = 3;
+    want.wire.chars[2] = 0xE1;
+    check_record("a byte from 128 on is no letter");
 }
 
 /* More changes than places: R - 1 kept, the rest lost, all told by emptying. */

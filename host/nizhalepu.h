@@ -18,7 +18,7 @@
  * - Alter neither the program area nor the log between calls. Every call still does what document 01
  *   says if it happens, but what the box then runs and tells is what the areas hold.
  * - Make one call at a time on one record.
- * - Have room for it on the stack: as it is built here a byte takes at most 760 bytes and a tick 352
+ * - Have room for it on the stack: as it is built here a byte takes under 900 bytes and a tick under 400
  *   (docs/SPEED.md). That is measured, and no part of what is proved.
  */
 #ifndef NIZHALEPU_H
