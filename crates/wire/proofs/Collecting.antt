@@ -4,12 +4,13 @@ use mathlib.Core.Path.{_≡_, refl, _∙_}
 use Prim.Native.Nat.{ℕ, _≤_, _<_}
 use native.Mathlib.Omega.{arith}
 use mathlib.Core.Bool.{true, false}
-use mathlib.Core.List.{[], _∷_, _++_}
+use mathlib.Core.List.{[], _∷_, _++_, map}
 use lib.ListN.{length-set}
 use lib.Seq.{take-suc-set}
 use lib.Dec.{eqb, ltb}
 use borrow.Author.Tests.{ltb-true, lt-ltb, le-ltb}
 use native.Mathlib.Numerals.{add-one}
+use Rattle.formats.specs.Checks.{text}
 use Rattle.formats.proofs.Checks.{if-case}
 use Rattle.wire.specs.declared.Wire.{Wire}
 use Rattle.wire.specs.Collecting.{mostChars, capital, tooLong, collect, cleared, sent}
@@ -58,3 +59,8 @@ kept-none x w other le = rw (other, le-ltb (w .len) mostChars le)
 pub space-dropped : (x : ℕ) (w : Wire) → eqb x 32 ≡ true → collect x w ≡ w
 unfolding collect
 space-dropped x w e = rw e
+
+-- a-z count as A-Z, and their neighbours stay what they are.
+pub capitals-at-edges : map capital (text "`az{@AZ[") ≡ text "`AZ{@AZ["
+unfolding text
+capitals-at-edges = refl
