@@ -41,6 +41,8 @@ _Static_assert(offsetof(struct nizhalepu_counter, count) == 0 && offsetof(struct
 _Static_assert(sizeof(struct nizhalepu_said) == 16, "what a call says");
 _Static_assert(offsetof(struct nizhalepu_said, refusal) == 0 && offsetof(struct nizhalepu_said, lines) == 2, "what a call says");
 _Static_assert(offsetof(struct nizhalepu_said, written) == 8, "what a call says");
+_Static_assert(sizeof(struct nizhalepu_duration) == 16 && sizeof(((struct nizhalepu_duration *)0)->ticks) == 8, "a duration");
+_Static_assert(offsetof(struct nizhalepu_duration, refusal) == 0 && offsetof(struct nizhalepu_duration, ticks) == 8, "a duration");
 
 /* ---- the box of the test: the record between bytes that no call may touch */
 
@@ -357,6 +359,24 @@ static void test_said_and_ticks(void) {
     check_record("a refused power-on");
 }
 
+static void check_duration(const char *name, size_t length, unsigned refusal, uint64_t ticks) {
+    struct nizhalepu_duration duration = nizhalepu_duration(program, length);
+    moment = name;
+    check("refusal", duration.refusal, refusal);
+    check("ticks", duration.ticks, ticks);
+}
+
+/* More ticks than 32 bits hold, so that all bytes of the number but the highest, which are 0 in any, are seen. */
+static void test_duration(void) {
+    static const uint8_t loops[] = {0x46, 1, 0x27, 0x0F, 0, 0, 0, 0, 0x46, 2, 0, 100, 0, 0, 0, 0, 0x53, 0, 1, 2, 3, 4, 0x27, 0x0F,
+                                    0x4E, 2, 0,    0,    0, 0, 0, 0, 0x4E, 1, 0, 0,   0, 0, 0, 0, 0x53, 0, 0, 0, 0, 0, 0,    0};
+    memset(program, 0, sizeof program);
+    check_duration("the duration of a program of zeros", sizeof program, NIZHALEPU_NO_END, 0);
+    memcpy(program, loops, sizeof loops);
+    check_duration("the duration of two loops", sizeof program, NIZHALEPU_ACCEPTED, 9998000100);
+    check_duration("the duration of a program that is too short", sizeof program - 1, NIZHALEPU_BAD_PROGRAM, 0);
+}
+
 int main(void) {
     memset(box.before, GUARD_BYTE, sizeof box.before);
     memset(box.after, GUARD_BYTE, sizeof box.after);
@@ -366,6 +386,7 @@ int main(void) {
     test_wire();
     test_log();
     test_said_and_ticks();
+    test_duration();
     printf("layout: %u checks, %u failed\n", checks, failures);
     return failures == 0 ? EXIT_SUCCESS : EXIT_FAILURE;
 }

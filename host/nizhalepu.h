@@ -2,8 +2,9 @@
  *
  * Link with target/staticlib/libnizhalepu.a (x86-64), which `rt staticlib nizhalepu` proves and makes; all
  * that it may need of a C library is memcpy. The rules are those of document 01 and of document 02, items 1 (the
- * log as text), 2 (a loop of none), 3 (why a special command was not taken), 4 (a bad stored line) and 5 (less
- * stack); the Rattle source of these calls, with their contracts, is crates/nizhalepu/src/lib.rt.
+ * log as text), 2 (a loop of none), 3 (why a special command was not taken), 4 (a bad stored line), 5 (less
+ * stack) and 6 (how long a program takes); the Rattle source of these calls, with their contracts, is
+ * crates/nizhalepu/src/lib.rt.
  *
  * Who owns what. The caller owns the record and every area. The library keeps no pointer, allocates
  * nothing, has no data of its own but constants and calls nothing back; each call ends.
@@ -14,7 +15,7 @@
  *   ask nothing more of the record.
  * - Lend areas that do not overlap each other or the record, with at least as many bytes behind each
  *   pointer as its length says. A pointer is not null, even with length 0. A length may be wrong: the
- *   five calls refuse that, and nizhalepu_list then writes nothing.
+ *   five calls and nizhalepu_duration refuse that, and nizhalepu_list then writes nothing.
  * - Alter neither the program area nor the log between calls. Every call still does what document 01
  *   says if it happens, but what the box then runs and tells is what the areas hold.
  * - Make one call at a time on one record.
@@ -186,6 +187,31 @@ struct nizhalepu_said nizhalepu_empty(struct nizhalepu_record *record,
  * An area shorter than NIZHALEPU_TEXT gets nothing, and the answer is 0, as for an empty log: lend one that
  * is as long. */
 size_t nizhalepu_list(const uint8_t *log, size_t log_length, uint8_t *text, size_t text_length);
+
+/* ---- how long a program takes. It needs no record; the program may be any bytes, of any number, and is only read.
+ *
+ * The number is that of the unpaused ticks from a start at line 000 to event 011. The end is the first State with
+ * time 0; a For above it and the first later Next of its counter are a loop. A program without a number has the
+ * first of these refusals that applies, in this order; 044 and 014 go by every line above the end, also by one in
+ * a loop of none, which is never run. */
+
+enum {
+    /* NIZHALEPU_BAD_PROGRAM, 30, is the first */
+    NIZHALEPU_NO_END = 42,           /* no State with time 0 */
+    NIZHALEPU_BAD_LOOPS = 40,        /* two loops cross, one starts inside another of its counter, a For has no Next, or
+                                      * a Next above the end has no For */
+    NIZHALEPU_END_IN_LOOP = 41,      /* the end is inside a loop */
+    NIZHALEPU_LOOP_OF_NO_TICKS = 44, /* a loop with count above 0 whose body takes no ticks; a Bad line in it takes none */
+    NIZHALEPU_BAD_LINE = 14,         /* a Bad line above the end */
+    NIZHALEPU_TOO_MANY_TICKS = 43    /* more than 9,999,999,999 */
+};
+
+struct nizhalepu_duration {
+    uint8_t refusal;    /* 0 where the program has a number of ticks */
+    uint64_t ticks;     /* 0 where it is refused */
+};
+
+struct nizhalepu_duration nizhalepu_duration(const uint8_t *program, size_t program_length);
 
 #ifdef __cplusplus
 }

@@ -9,8 +9,8 @@
 #include "box.h"
 
 /*
- * DAMAGE 0 is the box and the reader of its log; 1 to 10 and 18 to 32 give the box, 11 to 17 the reader one known error each, to see
- * that a comparison finds it.
+ * DAMAGE 0 is the box, the reader of its log and the reading of durations; 1 to 10 and 18 to 32 give the box, 11 to 17 the reader, 33
+ * and 34 the durations one known error each, to see that a comparison finds it.
  */
 #ifndef DAMAGE
 #define DAMAGE 0

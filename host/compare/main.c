@@ -6,7 +6,7 @@
 #include <string.h>
 #include <time.h>
 
-enum { BAD_USAGE = 2, USUAL_CALLS = 10000000 };
+enum { BAD_USAGE = 2, USUAL_CALLS = 10000000, USUAL_PROGRAMS = 100000, USUAL_TICKING = 10000 };
 
 static const char usage[] =
     "compare [--calls N] [--seed S] [--logs FILE]\n"
@@ -20,9 +20,18 @@ static const char usage[] =
     "compare speed                   nanoseconds per call of both, on the same calls, and per log of both readers\n"
     "compare stack                   bytes of stack that calls of both take, and whether the proved box keeps under its limits\n"
     "compare limits                  the last tick count and the most changes that a gap can count; takes many minutes\n"
+    "compare durations [--programs N] [--seed S] [--keep FILE]\n"
+    "                                random programs, many of them refused: how long each takes, by the proved library and\n"
+    "                                by the independent reading (N a hundred thousand if not given); a difference prints\n"
+    "                                the program. FILE gets every program of 1,600 bytes and behind it the proved answer,\n"
+    "                                the number of the refusal (a byte) and the ticks (eight bytes, high byte first), for\n"
+    "                                python3 model/durations.py --check FILE\n"
+    "compare durations --ticking [N] [--seed S]\n"
+    "                                random programs of few ticks (N ten thousand if not given): the proved box runs each\n"
+    "                                that is not refused, and must come to event 011 at the tick that the library tells\n"
     "compare --help                  this text\n"
-    "Exit status: 0 equal, 1 a difference, a class of calls or logs never met or a stack over its limit, 2 bad usage or\n"
-    "no FILE.\n";
+    "Exit status: 0 equal, 1 a difference, a class of calls, logs or programs never or seldom met or a stack over its limit,\n"
+    "2 bad usage or no FILE.\n";
 
 static int bad_usage(void)
 {
@@ -43,10 +52,15 @@ static bool number(const char *text, uint64_t *value)
     return true;
 }
 
+static uint64_t seed_of_clock(void)
+{
+    return (uint64_t)time(NULL) * 1000003u + clock_nanoseconds() % 1000003u;
+}
+
 static int calls(int count, char **words)
 {
     uint64_t calls = USUAL_CALLS;
-    uint64_t seed = (uint64_t)time(NULL) * 1000003u + clock_nanoseconds() % 1000003u;
+    uint64_t seed = seed_of_clock();
     const char *logs = NULL;
     for (int i = 1; i < count; i += 2) {
         uint64_t *value = NULL;
@@ -61,6 +75,31 @@ static int calls(int count, char **words)
     return calls == 0 ? bad_usage() : compare_calls(calls, seed, logs);
 }
 
+/* The words behind `durations`. The number behind --ticking may be missing. */
+static int durations(int count, char **words)
+{
+    const char *path = NULL;
+    bool ticking = count > 2 && strcmp(words[2], "--ticking") == 0;
+    uint64_t programs = ticking ? USUAL_TICKING : USUAL_PROGRAMS, seed = seed_of_clock(), given;
+    int first = ticking ? 3 : 2;
+    if (ticking && count > 3 && number(words[3], &given)) {
+        programs = given;
+        first++;
+    }
+    for (int i = first; i < count; i += 2) {
+        uint64_t *value = NULL;
+        if (i + 1 == count) return bad_usage();
+        if (strcmp(words[i], "--seed") == 0) value = &seed;
+        if (strcmp(words[i], "--programs") == 0 && !ticking) value = &programs;
+        if (strcmp(words[i], "--keep") == 0 && !ticking)
+            path = words[i + 1];
+        else if (value == NULL || !number(words[i + 1], value))
+            return bad_usage();
+    }
+    if (programs == 0) return bad_usage();
+    return ticking ? compare_ticking(programs, seed) : compare_durations(programs, seed, path);
+}
+
 int main(int count, char **words)
 {
     setvbuf(stdout, NULL, _IOLBF, 0);
@@ -71,5 +110,6 @@ int main(int count, char **words)
     if (count == 2 && strcmp(words[1], "speed") == 0) return compare_speed();
     if (count == 2 && strcmp(words[1], "stack") == 0) return compare_stack();
     if (count == 2 && strcmp(words[1], "limits") == 0) return compare_limits();
+    if (count > 1 && strcmp(words[1], "durations") == 0) return durations(count, words);
     return calls(count, words);
 }

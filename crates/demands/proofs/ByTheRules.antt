@@ -4,17 +4,22 @@
 -- Assumes nothing.
 use mathlib.Core.Path.{_≡_, refl, sym, ap, ap₂, subst, _∙_}
 use Prim.Native.Nat.{ℕ, _+_, _≤_, _<_}
+use native.Mathlib.Omega.{arith}
 use mathlib.Core.Bool.{Bool, true, false, not, _&&_, _||_, true≢false}
 use mathlib.Core.List.{List, [], _∷_, _++_}
 use mathlib.Core.Option.{some}
 use lib.Dec.{eqb}
 use borrow.Author.Tests.{ne-eqb}
-use Rattle.formats.specs.Checks.{if_then_else_, text}
+use Rattle.formats.specs.Checks.{if_then_else_, passed, text}
 use Rattle.formats.proofs.Checks.{not-some, neither, both-false}
 use Rattle.lines.specs.declared.Line.the-variants.{Bad}
 use Rattle.lines.specs.Program.{lineAt}
 use Rattle.running.specs.declared.Run.{Run}
 use Rattle.running.specs.declared.Ran.{Ran}
+use Rattle.duration.specs.Report.{report}
+use Rattle.duration.specs.ByTheRule as ByTheRule
+use Rattle.duration.specs.ByTheRule.{EndsAfter}
+use Rattle.duration.proofs.Taking.{takes, after-ticks, after-one-more}
 use Rattle.running.specs.Running.{atLine, stopped, most, start, tick, ticks}
 use Rattle.running.specs.Running as Running
 use Rattle.running.specs.Ended.{Ended}
@@ -304,6 +309,38 @@ module _ (before : List Made) (m : Made) (k : ℕ) (ms : List Made) (taken : isT
         s .0 ∙ ap (λ (x : Ran). x .run) r,
         s .2 ∙ ap (λ (x : Ran). x .lines) r,
       )
+
+  -- 02, item 6: how long it takes. For a program that the report gives n ticks, started at line 000: as long as fewer than n ticks were taken
+  -- unpaused it runs, whatever the traffic and the pauses,
+  module _ (first : k ≡ 0) (n : ℕ) (is : report program ≡ passed n) where
+    lasts : EndsAfter program n (start program k (outputs before))
+    lasts = rw first (takes program n is (outputs before))
+
+    on-until : count < n → ruled count .on ≡ true
+    on-until lt = ap (λ (r : Run). r .on) (sym (after-ticks program count (start program k (outputs before)))) ∙ lasts .before count lt .on
+
+    pub runs-as-long : count < n → told now .run .on ≡ true
+    runs-as-long lt = ap (λ (r : Run). r .on) (runs-by-the-rules (on-until lt) .0) ∙ on-until lt
+
+    -- with the n-th it ends, with event 011,
+    pub ends-on-time : count + 1 ≡ n → (a : Areas) → isTaken (seen now (ticking a)) ≡ true → HandsOn (after unpowered now) (ticking a)
+        → told now .paused ≡ false → let gone = told (now ++ (ticking a ∷ [])) in (gone .event ≡ 11) × (gone .run .on ≡ false)
+    ends-on-time last a ok hand unpaused =
+        let x = start program k (outputs before) in
+        let by = ends-by-the-rules (on-until (omega arith)) a ok hand unpaused in
+        let next-is : tick program (ruled count) ≡ ByTheRule.after program n x =
+        ap (tick program) (sym (after-ticks program count x)) ∙ sym (after-one-more program count x) ∙ ap (λ j. ByTheRule.after program j x) last in (
+          by .1 ∙ ap (λ (r : Ran). if eqb (r .event) 0 then told now .event else r .event) next-is ∙ rw (lasts .event),
+          ap (λ (r : Run). r .on) (by .0) ∙ ap (λ (r : Ran). r .run .on) next-is ∙ lasts .off,
+        )
+
+    -- and where there are none to take, at the start.
+    pub ends-at-once : n ≡ 0 → (told begun .event ≡ 11) × (told begun .run .on ≡ false)
+    unfolding ByTheRule.after
+    ends-at-once none =
+        let x = start program k (outputs before) in
+        let end : EndsAfter program 0 x = rw none at lasts in
+        (starts-by-the-rules .1 ∙ rw (end .event), ap (λ (r : Run). r .on) (starts-by-the-rules .0) ∙ end .off)
 
 paused-stays : (k : Call) (s : Said) (a : Areas) (t : Told) → eqb (given s) 1 ≡ false → isPress 1 k ≡ false
     → (eqb (given s) 2 || eqb (given s) 4 || isPress 2 k) ≡ false → pausedThen k s a t ≡ t .paused

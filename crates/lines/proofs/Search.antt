@@ -166,3 +166,11 @@ module _ (p : List ℕ) (c : ℕ) where
         go : Found (k + 1) → nextAfter p c k ≡ 200
         go (finds f) = absurd (first-or-none (k + 1) (nextFrom p c (k + 1)) f none)
         go (ends e none) = begun ∙ e
+
+    -- and nowhere else.
+    pub next-none : nextAfter p c k ≡ 200 → NoneFrom p c (k + 1)
+    next-none is = go found
+      where
+        go : Found (k + 1) → NoneFrom p c (k + 1)
+        go (finds f) = let at : nextFrom p c (k + 1) ≡ 200 = sym begun ∙ is in absurd (omega (arith, f .inProgram))
+        go (ends e none) = none

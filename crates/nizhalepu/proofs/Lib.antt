@@ -1,2 +1,3 @@
 pub mod MachineValues
 pub mod Agreement
+pub mod Durations

@@ -1,1 +1,2 @@
 pub mod InRecord
+pub mod Durations

@@ -1,4 +1,5 @@
-// The record that the box's main loop keeps, the five calls that alter it where it stands, and the text of an emptied log: a library for C.
+// The record that the box's main loop keeps, the five calls that alter it where it stands, the text of an emptied log, and how long a program
+// takes: a library for C.
 // Each of the five calls the method of the box and stores the box that this returned. Definition: `call` of controller/specs/Calls.antt, as for the
 // by-value calls; specs/InRecord.antt for what stays in the record and what is said beside it. The header is host/nizhalepu.h.
 ghost use mathlib.Core.Path.{_≡_};
@@ -12,7 +13,10 @@ ghost use Rattle.controller.specs.Controller.{areas};
 ghost use Rattle.nizhalepu.specs.InRecord.{inRecord};
 ghost use Rattle.formats.specs.Writing.{Wrote};
 ghost use Rattle.reader.specs.Listing.{listingIn};
+ghost use Rattle.duration.specs.Report.{report};
+ghost use Rattle.nizhalepu.specs.Durations.{durationOf};
 use calls::SwitchBox;
+use duration::Answer;
 
 // What a call says; the state stays in the record.
 #[repr(C)]
@@ -127,4 +131,25 @@ pub extern "C" fn nizhalepu_list(log: &[u8], text: &mut [u8]) -> usize
     ensures wrote { λ r. ⌜ Wrote 0 (listingIn (length (now (text .entry))) (now (log .entry))) (now (text .entry)) r (now (text .exit)) ⌝ }
 {
     reader::text::list(log, text)
+}
+
+// How long a program takes.
+#[repr(C)]
+pub struct Duration {
+    // the number of the refusal, 0 where the program has a duration
+    pub refusal: u8,
+    // the ticks from a start at line 000 to event 011, 0 where it is refused
+    pub ticks: u64,
+}
+
+// How long a program takes from a start at line 000 to event 011, or why that is not told.
+#[no_mangle]
+pub extern "C" fn nizhalepu_duration(program: &[u8]) -> Duration
+    ensures duration { λ r. ⌜ r ≡ durationOf (report (now (program .entry))) ⌝ }
+{
+    let answer = duration::report(program);
+    match answer {
+        Answer::Takes(ticks) => Duration { refusal: 0, ticks },
+        Answer::Refused(refusal) => Duration { refusal, ticks: 0 },
+    }
 }

@@ -10,18 +10,22 @@ use Rattle.lines.specs.declared.Line.the-variants.{State, For, Next, Bad}
 use Rattle.lines.specs.Program.{lineAt, nextAfter, FirstFrom, NoneFrom}
 use Rattle.lines.proofs.Search.{first-next, none-next}
 use Rattle.running.specs.declared.Run.{Run}
+use Rattle.running.specs.declared.Ran.{Ran}
 use Rattle.running.specs.Running.{free, counter, atLine, withOutputs, waiting, withCounter, stopped, ends, goesTo, onward, runLine}
-use Rattle.running.specs.Running.{isForOrNext, stops, follow, step, runDue, most, tick, ticks}
+use Rattle.running.specs.Running.{isForOrNext, stops, rests, follow, step, runDue, most, tick, ticks}
 use Rattle.running.proofs.Waiting.{held-until, due-at}
 
 -- ---- "State, time T above 0: set all 32 outputs at once; the next line falls due on the T-th tick taken unpaused."
 
 module _ (p : List ℕ) (r : Run) (outputs time : ℕ) (line : lineAt p (r .line) ≡ State outputs time) (above : 0 < time) where
-  -- in the call in which it falls due it sets the outputs
-  pub state-sets : (left n : ℕ) → runDue p left n r .run ≡ waiting time (withOutputs outputs r)
+  -- in the call in which it falls due it sets the outputs, and ends the call
+  pub state-rests : (left n : ℕ) → runDue p left n r ≡ rests n (waiting time (withOutputs outputs r))
   unfolding runDue step runLine
-  state-sets zero n = rw (line, ne-eqb time 0 (λ z. omega arith))
-  state-sets (suc left) n = rw (line, ne-eqb time 0 (λ z. omega arith))
+  state-rests zero n = rw (line, ne-eqb time 0 (λ z. omega arith))
+  state-rests (suc left) n = let none : n + 0 ≡ n = omega arith in rw (line, ne-eqb time 0 (λ z. omega arith), none)
+
+  pub state-sets : (left n : ℕ) → runDue p left n r .run ≡ waiting time (withOutputs outputs r)
+  state-sets left n = ap (λ (x : Ran). x .run) (state-rests left n)
 
   -- it is held, and the outputs stand, for every tick before the T-th
   pub state-held : (left n j : ℕ) → r .on ≡ true → j < time → ticks p j (runDue p left n r .run) ≡ waiting (time - j) (withOutputs outputs r)

@@ -75,6 +75,11 @@ pub fn read_whole(buffer: &mut [u8]) -> Got
     }
 }
 
+// Whether somebody may wait for an answer before more input comes: so it is where the input has no position, as a pipe or a terminal.
+pub fn is_awaited() -> bool {
+    libc::lseek(STDIN_FILENO, 0, libc::SEEK_CUR) < 0
+}
+
 // ---- output
 
 // Bytes are written, all of them. A write that failed is told on standard error.

@@ -1,0 +1,87 @@
+-- To come to a line: the moment at which it falls due, how many For and Next lines its call has run by then, and the counters.
+-- Assumes nothing.
+use Prim.Native.Nat.{ℕ, suc, _+_, _-_, _≤_, _<_}
+use native.Mathlib.Omega.{arith}
+use mathlib.Core.Path.{_≡_, ap, _∙_}
+use mathlib.Core.Bool.{true}
+use mathlib.Core.List.{List}
+use lib.ListN.{length, getD}
+use Rattle.lines.specs.declared.Line.the-variants.{For}
+use Rattle.lines.specs.Program.{lineAt}
+use Rattle.running.specs.declared.Counter.{Counter}
+use Rattle.running.specs.declared.Run.{Run}
+use Rattle.running.specs.declared.Ran.{Ran}
+use Rattle.running.specs.declared.Step.{Step}
+use Rattle.running.specs.Running.{free, atLine, goesTo, follow, isForOrNext, step, runDue}
+use Rattle.running.proofs.Steps.{loop-counts}
+use Rattle.duration.specs.Ticks.{runTicks}
+use Rattle.duration.proofs.Reaching.{Reaches, and-then}
+
+-- a run that goes on, on line i and with these counters
+pub record At (i : ℕ) (cs : List Counter) (r : Run) : Type 0 where
+  pub on : r .on ≡ true
+  pub line : r .line ≡ i
+  pub counters : r .counters ≡ cs
+
+-- ---- the lines that a call has run
+
+-- Those of the call in which a line falls due, `len` lines and t ticks after another: of a call that began on the way, or, where no tick was
+-- taken, with the n before them.
+pub data Few (t n len lines : ℕ) : Type 0 where
+  fresh : lines ≤ len → Few t n len lines
+  same : t ≡ 0 → lines ≤ n + len → Few t n len lines
+
+pub few-sum : {t n len lines : ℕ} → Few t n len lines → lines ≤ n + len
+few-sum (fresh le) = omega arith
+few-sum (same z le) = le
+
+pub few-fresh : {t n len lines : ℕ} → 0 < t → Few t n len lines → lines ≤ len
+few-fresh lt (fresh le) = le
+few-fresh lt (same z le) = absurd (omega arith)
+
+pub few-then : {s t n len more all lines last : ℕ} → len + more ≡ all → Few s n len lines → Few t lines more last → Few (s + t) n all last
+few-then is a (fresh le) = fresh (omega arith)
+few-then is (fresh a) (same z le) = fresh (omega arith)
+few-then is (same y a) (same z le) = same (omega arith) (omega arith)
+
+-- ---- to come to a line
+
+-- x comes to line j in t ticks, in a call that has run few lines, with these counters
+pub record Arrives (p : List ℕ) (x : Ran) (t j : ℕ) (cs : List Counter) (n len : ℕ) : Type 0 where
+  pub run : Run
+  pub lines : ℕ
+  pub left : ℕ
+  pub budget : lines + left ≡ 400
+  pub few : Few t n len lines
+  pub reaches : Reaches p x t (runDue p left lines run)
+  pub at : At j cs run
+
+-- one way before another
+pub led : {p : List ℕ} {x y : Ran} {s t u j : ℕ} {cs : List Counter} {m n more all : ℕ}
+    → Reaches p x s y → (q : Arrives p y t j cs m more) → u ≡ s + t → Few u n all (q .lines) → Arrives p x u j cs n all
+led {p} way q is few =
+    record {
+      run = q .run;
+      lines = q .lines;
+      left = q .left;
+      budget = q .budget;
+      few = few;
+      reaches = rw is (and-then p way (q .reaches));
+      at = q .at;
+    }
+
+-- a For or a Next that goes on to line k
+pub goes-to : (p : List ℕ) (left n : ℕ) (r : Run) (k : ℕ) (s : Run) → isForOrNext (lineAt p (r .line)) ≡ true → step p r ≡ goesTo k s
+    → runDue p (suc left) n r ≡ runDue p left (n + 1) (atLine k s)
+goes-to p left n r k s loop is =
+    loop-counts p r loop left n ∙ ap (λ (x : Step). follow (x .how) (n + 1) (x .run) (λ y. runDue p left (n + 1) y)) is
+
+-- the counters of the loops in a run of lines are free
+unfoldable pub Free : List ℕ → ℕ → ℕ → List Counter → Type 0
+Free p i j cs = (k c x : ℕ) → i ≤ k → k < j → lineAt p k ≡ For c x → getD cs (c - 1) free ≡ free
+
+-- The running rule passes from line i to line j in as many ticks as the lines take.
+unfoldable pub Passes : List ℕ → ℕ → ℕ → Type 0
+Passes p i j =
+    (cs : List Counter) → length cs ≡ 4 → Free p i j cs → (r : Run) → At i cs r → (n left : ℕ) → n + left ≡ 400 → j - i ≤ left
+    → Arrives p (runDue p left n r) (runTicks p i j) j cs n (j - i)

@@ -1,0 +1,156 @@
+-- Laws of loops: a For and the Next that it pairs with.
+-- Assumes nothing.
+use Prim.Native.Nat.{ℕ, suc, _+_, _-_, _≤_, _<_}
+use native.Mathlib.Omega.{arith}
+use mathlib.Core.Path.{_≡_, refl, sym, ap, _∙_}
+use mathlib.Core.Logic.{_≢_}
+use mathlib.Core.Bool.{Bool, true, false, false≢true}
+use mathlib.Core.List.{List}
+use lib.Dec.{eqb, ltb, leb}
+use borrow.Author.Tests.{eqb-true, eqb-false, ltb-true, lt-ltb, leb-true}
+use Rattle.formats.proofs.Checks.{both-true}
+use Rattle.lines.specs.declared.Line.{Line}
+use Rattle.lines.specs.declared.Line.the-variants.{State, For, Next, Bad}
+use Rattle.lines.specs.Program.{lineAt, nextAfter, FirstFrom}
+use Rattle.lines.proofs.Places.{line-ranged}
+use Rattle.lines.proofs.Search.{next-first, first-next, none-next, next-none}
+use Rattle.running.specs.Running.{isForOrNext}
+use Rattle.duration.specs.Loops.{nextFor, nextOf, forCounter, counterOf, isInside, isNext}
+
+-- ---- kinds of lines
+
+pub for-no-next : {c x d : ℕ} → For c x ≡ Next d → ⊥
+for-no-next e = false≢true (ap isNext e)
+
+pub state-no-for : {o t c x : ℕ} → State o t ≡ For c x → ⊥
+state-no-for e = false≢true (ap isForOrNext e)
+
+pub same-next : {c d : ℕ} → Next c ≡ Next d → c ≡ d
+same-next e = ap named e
+  where
+    named : Line → ℕ
+    named (State o t) = 0
+    named (For c x) = 0
+    named (Next c) = c
+    named Bad = 0
+
+-- a For has a counter of 1 to 4
+pub counter-ranged : (p : List ℕ) (k c x : ℕ) → lineAt p k ≡ For c x → (1 ≤ c) × (c ≤ 4)
+counter-ranged p k c x is =
+    let r = rw is at (line-ranged p k) in
+    let b = both-true (leb 1 c) (leb c 4) (r .range .0) in
+    (leb-true 1 c (b .0), leb-true c 4 (b .1))
+
+pub next-ranged : (p : List ℕ) (k c : ℕ) → lineAt p k ≡ Next c → (1 ≤ c) × (c ≤ 4)
+next-ranged p k c is =
+    let r = rw is at (line-ranged p k) in
+    let b = both-true (leb 1 c) (leb c 4) (r .range) in
+    (leb-true 1 c (b .0), leb-true c 4 (b .1))
+
+-- ---- a For and its Next
+
+module _ (p : List ℕ) (k : ℕ) where
+  -- the counter and the Next of a For
+  pub counter-of : {c x : ℕ} → lineAt p k ≡ For c x → counterOf p k ≡ c
+  unfolding counterOf
+  counter-of e = rw e
+
+  pub next-of : {c x : ℕ} → lineAt p k ≡ For c x → nextOf p k ≡ nextAfter p c k
+  unfolding nextOf
+  next-of e = rw e
+
+  -- a loop begins on a line that has a Next
+  pub begins : {X : Type 0} → 0 < nextOf p k → ((c x : ℕ) → lineAt p k ≡ For c x → X) → X
+  unfolding nextOf
+  begins {X} lt h = go (lineAt p k) refl lt
+    where
+      go : (l : Line) → lineAt p k ≡ l → 0 < nextFor p k l → X
+      go (State o t) e lt = absurd (omega arith)
+      go (For c x) e lt = h c x e
+      go (Next c) e lt = absurd (omega arith)
+      go Bad e lt = absurd (omega arith)
+
+  -- a line that has a counter is a For
+  pub begins-so : {X : Type 0} → 0 < counterOf p k → ((c x : ℕ) → lineAt p k ≡ For c x → X) → X
+  unfolding counterOf
+  begins-so {X} lt h = go (lineAt p k) refl lt
+    where
+      go : (l : Line) → lineAt p k ≡ l → 0 < forCounter l → X
+      go (State o t) e lt = absurd (omega arith)
+      go (For c x) e lt = h c x e
+      go (Next c) e lt = absurd (omega arith)
+      go Bad e lt = absurd (omega arith)
+
+  pub next-by : {c : ℕ} → counterOf p k ≡ c → 0 < c → nextOf p k ≡ nextAfter p c k
+  next-by {c} is lt = begins-so (omega arith) λ d x at. next-of at ∙ ap (λ n. nextAfter p n k) (sym (counter-of at) ∙ is)
+
+  -- a line that has a Next has a counter of 1 to 4
+  pub counted : {X : Type 0} → 0 < nextOf p k → ((d : ℕ) → d < 4 → counterOf p k ≡ suc d → X) → X
+  counted lt h =
+      begins lt λ c x at.
+      let r = counter-ranged p k c x at in
+      h (c - 1) (omega (arith, r .0, r .1)) (counter-of at ∙ one-up c (r .0))
+    where
+      one-up : (c : ℕ) → 1 ≤ c → c ≡ suc (c - 1)
+      one-up c le = omega arith
+
+  module _ (in-program : k < 200) where
+    -- the Next stands behind its For,
+    pub next-after : (c : ℕ) → k < nextAfter p c k
+    next-after c = go (eqb (nextAfter p c k) 200) refl
+      where
+        go : (t : Bool) → eqb (nextAfter p c k) 200 ≡ t → k < nextAfter p c k
+        go true e = let is : nextAfter p c k ≡ 200 = eqb-true _ _ e in omega arith
+        go false e = omega (arith, next-first p c k in-program (eqb-false _ _ e) .notBefore)
+
+    -- and in the program, if there is one
+    pub next-within : (c : ℕ) → nextAfter p c k ≤ 200
+    next-within c = go (eqb (nextAfter p c k) 200) refl
+      where
+        go : (t : Bool) → eqb (nextAfter p c k) 200 ≡ t → nextAfter p c k ≤ 200
+        go true e = let is : nextAfter p c k ≡ 200 = eqb-true _ _ e in omega arith
+        go false e = omega (arith, next-first p c k in-program (eqb-false _ _ e) .inProgram)
+
+    pub of-within : nextOf p k ≤ 200
+    unfolding nextOf
+    of-within = go (lineAt p k)
+      where
+        go : (l : Line) → nextFor p k l ≤ 200
+        go (State o t) = omega arith
+        go (For c x) = next-within c
+        go (Next c) = omega arith
+        go Bad = omega arith
+
+    -- the first later Next of its counter
+    pub pairs : {c x : ℕ} → lineAt p k ≡ For c x → nextOf p k ≢ 200 → FirstFrom p c (k + 1) (nextOf p k)
+    pairs {c} e ne = let is = next-of e in rw is (next-first p c k in-program (λ z. ne (is ∙ z)))
+
+    pub paired : {c x n : ℕ} → lineAt p k ≡ For c x → FirstFrom p c (k + 1) n → nextOf p k ≡ n
+    paired {c} {x} {n} e f = next-of e ∙ first-next p c k in-program n f
+
+-- the first Next from line i on is that from a later line on that is not behind it
+pub first-later : {p : List ℕ} {c i j n : ℕ} → FirstFrom p c i n → i ≤ j → j ≤ n → FirstFrom p c j n
+first-later f le up =
+    record { notBefore = up; inProgram = f .inProgram; next = f .next; noneBetween = λ m from to. f .noneBetween m (omega arith) to }
+
+-- a For and one before it of the same counter, whose Next is behind it, have the same Next
+pub later-next : (p : List ℕ) (c k i : ℕ) → k < i → i < 200 → i < nextAfter p c k → nextAfter p c i ≡ nextAfter p c k
+later-next p c k i lt up before = go (eqb (nextAfter p c k) 200) refl
+  where
+    go : (t : Bool) → eqb (nextAfter p c k) 200 ≡ t → nextAfter p c i ≡ nextAfter p c k
+    go true e =
+        let is : nextAfter p c k ≡ 200 = eqb-true _ _ e in
+        let none = next-none p c k (omega arith) is in
+        none-next p c i up (λ j le to. none j (omega arith) to) ∙ sym is
+    go false e =
+        let f = next-first p c k (omega arith) (eqb-false _ _ e) in
+        first-next p c i up (nextAfter p c k) (first-later f (omega arith) (omega arith))
+
+-- what "inside" says
+pub inside : (p : List ℕ) (k i : ℕ) → isInside p k i ≡ true → (k < i) × (i < nextOf p k)
+unfolding isInside
+inside p k i e = let b = both-true (ltb k i) (ltb i (nextOf p k)) e in (ltb-true k i (b .0), ltb-true i (nextOf p k) (b .1))
+
+pub is-inside : (p : List ℕ) (k i : ℕ) → k < i → i < nextOf p k → isInside p k i ≡ true
+unfolding isInside
+is-inside p k i a b = rw (lt-ltb k i a, lt-ltb i (nextOf p k) b)

@@ -1,0 +1,77 @@
+-- The reasons of refusals, in the words of the sentence: what must be true of a program that is refused.
+-- 02, item 6: "Refusals, first that applies: 030 a program not of 1,600 bytes [...]; 042 no State with time 0; a For before the first such line pairs with the
+-- first later Next of its counter anywhere: 040 two
+-- such loops cross, one starts inside another of its counter, a For has no Next, or a Next before that line has no For; 041 that line is
+-- inside a loop; 044 a loop with count above 0 whose body takes 0 ticks; 014 a Bad line before it; 043 more than 9,999,999,999 ticks".
+use Prim.Native.Nat.{ℕ, _+_, _<_}
+use mathlib.Core.Path.{_≡_}
+use mathlib.Core.Logic.{_≢_}
+use mathlib.Core.List.{List}
+use lib.ListN.{length}
+use lib.Dec.{eqb}
+use Rattle.formats.specs.Checks.{if_then_else_}
+use Rattle.lines.specs.declared.Line.the-variants.{State, For, Next, Bad}
+use Rattle.lines.specs.Program.{lineAt, FirstFrom, NoneFrom}
+use Rattle.duration.specs.Ticks.{runTicks}
+use Rattle.duration.specs.Report.{mostTicks}
+use Rattle.duration.specs.ByTheRule.{TakesTicks}
+
+-- "no State with time 0" on a line before n
+abbrev pub NoEnd : List ℕ → ℕ → Type 0
+NoEnd p n = (k o : ℕ) → k < n → lineAt p k ≢ State o 0
+
+-- "the first such line" is line e
+pub record End (p : List ℕ) (e : ℕ) : Type 0 where
+  pub inProgram : e < 200
+  pub outputs : ℕ
+  pub mark : lineAt p e ≡ State outputs 0
+  pub first : NoEnd p e
+
+-- A For on line k, before line e, has counter c and this count, and "pairs with the first later Next of its counter anywhere", line n.
+pub record Loop (p : List ℕ) (e k c count n : ℕ) : Type 0 where
+  pub before : k < e
+  pub begins : lineAt p k ≡ For c count
+  pub next : FirstFrom p c (k + 1) n
+
+-- "two such loops cross", "one starts inside another of its counter", "a For has no Next", "or a Next before that line has no For"
+pub data Tangled (p : List ℕ) (e : ℕ) : Type 0 where
+  crossing : {k c x m j d y n : ℕ} → Loop p e k c x m → Loop p e j d y n → k < j → j < m → m < n → Tangled p e
+  inOwn : {k c x m j y n : ℕ} → Loop p e k c x m → Loop p e j c y n → k < j → j < m → Tangled p e
+  noNext : {k c x : ℕ} → k < e → lineAt p k ≡ For c x → NoneFrom p c (k + 1) → Tangled p e
+  noFor : {m d : ℕ} → m < e → lineAt p m ≡ Next d → ((k c x : ℕ) → Loop p e k c x m → ⊥) → Tangled p e
+
+-- "that line is inside a loop"
+pub data EndInside (p : List ℕ) (e : ℕ) : Type 0 where
+  inside : {k c x n : ℕ} → Loop p e k c x n → e < n → EndInside p e
+
+-- "a loop with count above 0 whose body takes 0 ticks"
+pub data Idle (p : List ℕ) (e : ℕ) : Type 0 where
+  idle : {k c x n : ℕ} → Loop p e k c x n → 0 < x → runTicks p (k + 1) n ≡ 0 → Idle p e
+
+-- "a Bad line before it"
+pub data BadBefore (p : List ℕ) (e : ℕ) : Type 0 where
+  bad : {k : ℕ} → k < e → lineAt p k ≡ Bad → BadBefore p e
+
+-- A program that is refused with the number r has its reason.
+pub data Reason (p : List ℕ) (r : ℕ) : Type 0 where
+  -- "a program not of 1,600 bytes"
+  e030 : r ≡ 30 → length p ≢ 1600 → Reason p r
+  -- "no State with time 0"
+  e042 : r ≡ 42 → NoEnd p 200 → Reason p r
+  e040 : {e : ℕ} → r ≡ 40 → End p e → Tangled p e → Reason p r
+  e041 : {e : ℕ} → r ≡ 41 → End p e → EndInside p e → Reason p r
+  e044 : {e : ℕ} → r ≡ 44 → End p e → Idle p e → Reason p r
+  e014 : {e : ℕ} → r ≡ 14 → End p e → BadBefore p e → Reason p r
+  -- "more than 9,999,999,999 ticks", which the running rule takes
+  e043 : {n : ℕ} → r ≡ 43 → mostTicks < n → TakesTicks p n → Reason p r
+
+-- "Refusals, first that applies": their order
+unfoldable pub place : ℕ → ℕ
+place r =
+    if eqb r 30 then 0
+    else if eqb r 42 then 1
+    else if eqb r 40 then 2
+    else if eqb r 41 then 3
+    else if eqb r 44 then 4
+    else if eqb r 14 then 5
+    else 6
