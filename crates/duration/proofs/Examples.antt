@@ -13,7 +13,7 @@ use Rattle.lines.specs.declared.Line.the-variants.{State, For, Next, Bad}
 use Rattle.lines.specs.Line.{readLine, bytesOf}
 use Rattle.lines.specs.Program.{lineAt, firstNext, nextAfter}
 use Rattle.duration.specs.Lines.{someBefore, firstOf}
-use Rattle.duration.specs.Loops.{endLine, nextOf, counterOf, isInside, crosses, startsInOwn, lacksNext, lacksFor, isTangled, endsInside}
+use Rattle.duration.specs.Loops.{endLine, nextOf, counterAt, isInside, crosses, startsInOwn, lacksNext, lacksFor, isTangled, endsInside}
 use Rattle.duration.specs.Ticks.{past, summed, runTicks, idlesAt, idles, hasBad}
 use Rattle.duration.specs.Report.{reportTo, report}
 use Rattle.duration.specs.Total.{mostTotal, grandTotal, toldTotal}
@@ -136,13 +136,13 @@ examples =
     ∷ []
 
 examples-hold : failing 1 examples ≡ []
-unfolding failing examples is digits numberAfter readLine bytesOf lineAt firstNext nextAfter someBefore firstOf endLine nextOf counterOf isInside crosses
+unfolding failing examples is digits numberAfter readLine bytesOf lineAt firstNext nextAfter someBefore firstOf endLine nextOf counterAt isInside crosses
     startsInOwn lacksNext lacksFor isTangled endsInside past summed runTicks idlesAt idles hasBad reportTo report _>>_ _orElse_
 examples-hold = refl
 
 -- "a grand total more than ten times that"; a refused program adds nothing
 totals-hold : (toldTotal mostTotal ≡ passed 99999999990) × (toldTotal 99999999991 ≡ refused 43)
     × (grandTotal (filled (these (S 5 ∷ E ∷ [])) ∷ [] ∷ filled (these long) ∷ filled (these (S 7 ∷ E ∷ [])) ∷ []) ≡ 12)
-unfolding toldTotal grandTotal digits numberAfter readLine bytesOf lineAt firstNext nextAfter someBefore firstOf endLine nextOf counterOf isInside crosses
+unfolding toldTotal grandTotal digits numberAfter readLine bytesOf lineAt firstNext nextAfter someBefore firstOf endLine nextOf counterAt isInside crosses
     startsInOwn lacksNext lacksFor isTangled endsInside past summed runTicks idlesAt idles hasBad reportTo report _>>_ _orElse_
 totals-hold = (refl, refl, refl)

@@ -14,7 +14,7 @@ use Rattle.lines.specs.declared.Line.{Line}
 use Rattle.lines.specs.declared.Line.the-variants.{State, For, Next, Bad}
 use Rattle.lines.specs.Program.{lineAt}
 use Rattle.duration.specs.Lines.{someBefore}
-use Rattle.duration.specs.Loops.{nextOf, counterOf, isInside, isNext, crosses, startsInOwn, lacksNext, lacksFor, isTangled, endsInside}
+use Rattle.duration.specs.Loops.{nextOf, counterAt, isInside, isNext, crosses, startsInOwn, lacksNext, lacksFor, isTangled, endsInside}
 use Rattle.duration.specs.Walk.{openAt, isAcrossOne, isFault}
 use Rattle.duration.proofs.Lines.{by-both, not-so, some-line, line-some, some-same}
 use Rattle.duration.proofs.Pairs.{same-next, counter-ranged, next-ranged, counter-of, next-of, begins}
@@ -24,7 +24,7 @@ use Rattle.duration.proofs.Walks.{across, has-for}
 module _ (p : List ℕ) (j : ℕ) where
   -- ---- a line that is no For
 
-  module _ (none : nextOf p j ≡ 0) (free : counterOf p j ≡ 0) where
+  module _ (none : nextOf p j ≡ 0) (free : counterAt p j ≡ 0) where
     no-cross : crosses p j ≡ false
     unfolding crosses
     no-cross = not-so _ λ e. some-line (λ k. isInside p k j && ltb (nextOf p k) (nextOf p j)) j e λ k lt t.
@@ -32,9 +32,9 @@ module _ (p : List ℕ) (j : ℕ) where
 
     no-own : startsInOwn p j ≡ false
     unfolding startsInOwn
-    no-own = not-so _ λ e. some-line (λ k. isInside p k j && eqb (counterOf p k) (counterOf p j)) j e λ k lt t.
-        let b = both-true (isInside p k j) (eqb (counterOf p k) (counterOf p j)) t in
-        counted p k (omega (arith, inside p k j (b .0) .1)) λ d few is. let z = eqb-true (counterOf p k) (counterOf p j) (b .1) in omega arith
+    no-own = not-so _ λ e. some-line (λ k. isInside p k j && eqb (counterAt p k) (counterAt p j)) j e λ k lt t.
+        let b = both-true (isInside p k j) (eqb (counterAt p k) (counterAt p j)) t in
+        counted p k (omega (arith, inside p k j (b .0) .1)) λ d few is. let z = eqb-true (counterAt p k) (counterAt p j) (b .1) in omega arith
 
     no-lack : lacksNext p j ≡ false
     unfolding lacksNext
@@ -62,22 +62,22 @@ module _ (p : List ℕ) (j : ℕ) where
         line-some (λ k. isInside p k j && leb (nextOf p k) (nextOf p j)) j k up (rw (b .0, le-leb (nextOf p k) (nextOf p j) (omega arith)))
 
     -- the loops of one counter around it have its Next
-    own-next : (k : ℕ) → k < j → j < nextOf p k → counterOf p k ≡ counterOf p j → nextOf p j ≡ nextOf p k
+    own-next : (k : ℕ) → k < j → j < nextOf p k → counterAt p k ≡ counterAt p j → nextOf p j ≡ nextOf p k
     own-next k before in-it same =
-        let own : counterOf p k ≡ c = same ∙ counter-of p j is in
+        let own : counterAt p k ≡ c = same ∙ counter-of p j is in
         let above = counter-ranged p j c x is .0 in
         let at-k = next-by p k own above in
         next-of p j is ∙ later-next p c k j before lt (omega arith) ∙ sym at-k
 
     own-around : startsInOwn p j ≡ true → Around ≡ true
     unfolding startsInOwn Around
-    own-around e = some-line (λ k. isInside p k j && eqb (counterOf p k) (counterOf p j)) j e λ k up t.
-        let b = both-true (isInside p k j) (eqb (counterOf p k) (counterOf p j)) t in
+    own-around e = some-line (λ k. isInside p k j && eqb (counterAt p k) (counterAt p j)) j e λ k up t.
+        let b = both-true (isInside p k j) (eqb (counterAt p k) (counterAt p j)) t in
         let z = own-next k up (inside p k j (b .0) .1) (eqb-true _ _ (b .1)) in
         line-some (λ k. isInside p k j && leb (nextOf p k) (nextOf p j)) j k up (rw (b .0, le-leb (nextOf p k) (nextOf p j) (omega arith)))
 
     -- and those of one Next have one counter
-    pub same-counter : (k : ℕ) → k < j → nextOf p j ≢ 200 → nextOf p k ≡ nextOf p j → j < nextOf p k → counterOf p k ≡ counterOf p j
+    pub same-counter : (k : ℕ) → k < j → nextOf p j ≢ 200 → nextOf p k ≡ nextOf p j → j < nextOf p k → counterAt p k ≡ counterAt p j
     same-counter k before has same in-it =
         begins p k (omega arith) λ d y at.
         let here = pairs p j lt is has in
@@ -94,7 +94,7 @@ module _ (p : List ℕ) (j : ℕ) where
             let b = both-true (isInside p k j) (leb (nextOf p k) (nextOf p j)) t in
             let z = same-counter k up has (eqb-true _ _ same) (inside p k j (b .0) .1) in
             let own : startsInOwn p j ≡ true =
-            line-some (λ k. isInside p k j && eqb (counterOf p k) (counterOf p j)) j k up (rw (b .0, eq-eqb (counterOf p k) (counterOf p j) z)) in
+            line-some (λ k. isInside p k j && eqb (counterAt p k) (counterAt p j)) j k up (rw (b .0, eq-eqb (counterAt p k) (counterAt p j) z)) in
             rw own (or-true (crosses p j))
         go k up t false other =
             let b = both-true (isInside p k j) (leb (nextOf p k) (nextOf p j)) t in
@@ -136,7 +136,7 @@ module _ (p : List ℕ) (j : ℕ) where
   no-for-next l is e = rw (is, e)
 
   pub fault-is : j < 200 → (crosses p j || startsInOwn p j || lacksNext p j || lacksFor p j) ≡ isFault (lineAt p j) j (nextOf p j) (openAt p j)
-  unfolding nextOf counterOf Around
+  unfolding nextOf counterAt Around
   fault-is lt = go (lineAt p j) refl
     where
       go : (l : Line) → lineAt p j ≡ l → (crosses p j || startsInOwn p j || lacksNext p j || lacksFor p j) ≡ isFault l j (nextOf p j) (openAt p j)

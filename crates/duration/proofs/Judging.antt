@@ -13,7 +13,7 @@ use Rattle.lines.specs.declared.Line.the-variants.{State, For, Next, Bad}
 use Rattle.lines.specs.Line.{isBad}
 use Rattle.lines.specs.Program.{lineAt}
 use Rattle.duration.specs.Lines.{someBefore}
-use Rattle.duration.specs.Loops.{nextOf, counterOf, isInside, isNext, crosses, startsInOwn, lacksNext, lacksFor, isTangled, endsInside}
+use Rattle.duration.specs.Loops.{nextOf, counterAt, isInside, isNext, crosses, startsInOwn, lacksNext, lacksFor, isTangled, endsInside}
 use Rattle.duration.specs.Ticks.{runTicks, idlesAt, idles, hasBad}
 use Rattle.duration.specs.Reasons.{End}
 use Rattle.duration.specs.Summing.{Nests}
@@ -59,8 +59,8 @@ module _ (p : List ℕ) (e : ℕ) (end : End p e) (plain : isTangled p e ≡ fal
           absurd (true≢false (sym far ∙ no))
       go false near true e =
           let is = eqb-true (nextOf p m) (nextOf p k) e in
-          let no = both-false (isInside p k m) (eqb (counterOf p k) (counterOf p m)) in-it
-          (no-line (λ k. isInside p k m && eqb (counterOf p k) (counterOf p m)) m (clear m lt .own) k after) in
+          let no = both-false (isInside p k m) (eqb (counterAt p k) (counterAt p m)) in-it
+          (no-line (λ k. isInside p k m && eqb (counterAt p k) (counterAt p m)) m (clear m lt .own) k after) in
           let one = begins p m (omega arith) λ c x at.
           same-counter p m (omega (arith, end .inProgram)) at k after (has-next m lt) (sym is) before in
           absurd (true≢false (sym (eq-eqb _ _ one) ∙ no))

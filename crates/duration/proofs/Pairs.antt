@@ -15,7 +15,7 @@ use Rattle.lines.specs.Program.{lineAt, nextAfter, FirstFrom}
 use Rattle.lines.proofs.Places.{line-ranged}
 use Rattle.lines.proofs.Search.{next-first, first-next, none-next, next-none}
 use Rattle.running.specs.Running.{isForOrNext}
-use Rattle.duration.specs.Loops.{nextFor, nextOf, forCounter, counterOf, isInside, isNext}
+use Rattle.duration.specs.Loops.{nextFor, nextOf, forCounter, counterAt, isInside, isNext}
 
 -- ---- kinds of lines
 
@@ -51,8 +51,8 @@ next-ranged p k c is =
 
 module _ (p : List ℕ) (k : ℕ) where
   -- the counter and the Next of a For
-  pub counter-of : {c x : ℕ} → lineAt p k ≡ For c x → counterOf p k ≡ c
-  unfolding counterOf
+  pub counter-of : {c x : ℕ} → lineAt p k ≡ For c x → counterAt p k ≡ c
+  unfolding counterAt
   counter-of e = rw e
 
   pub next-of : {c x : ℕ} → lineAt p k ≡ For c x → nextOf p k ≡ nextAfter p c k
@@ -71,8 +71,8 @@ module _ (p : List ℕ) (k : ℕ) where
       go Bad e lt = absurd (omega arith)
 
   -- a line that has a counter is a For
-  pub begins-so : {X : Type 0} → 0 < counterOf p k → ((c x : ℕ) → lineAt p k ≡ For c x → X) → X
-  unfolding counterOf
+  pub begins-so : {X : Type 0} → 0 < counterAt p k → ((c x : ℕ) → lineAt p k ≡ For c x → X) → X
+  unfolding counterAt
   begins-so {X} lt h = go (lineAt p k) refl lt
     where
       go : (l : Line) → lineAt p k ≡ l → 0 < forCounter l → X
@@ -81,11 +81,11 @@ module _ (p : List ℕ) (k : ℕ) where
       go (Next c) e lt = absurd (omega arith)
       go Bad e lt = absurd (omega arith)
 
-  pub next-by : {c : ℕ} → counterOf p k ≡ c → 0 < c → nextOf p k ≡ nextAfter p c k
+  pub next-by : {c : ℕ} → counterAt p k ≡ c → 0 < c → nextOf p k ≡ nextAfter p c k
   next-by {c} is lt = begins-so (omega arith) λ d x at. next-of at ∙ ap (λ n. nextAfter p n k) (sym (counter-of at) ∙ is)
 
   -- a line that has a Next has a counter of 1 to 4
-  pub counted : {X : Type 0} → 0 < nextOf p k → ((d : ℕ) → d < 4 → counterOf p k ≡ suc d → X) → X
+  pub counted : {X : Type 0} → 0 < nextOf p k → ((d : ℕ) → d < 4 → counterAt p k ≡ suc d → X) → X
   counted lt h =
       begins lt λ c x at.
       let r = counter-ranged p k c x at in

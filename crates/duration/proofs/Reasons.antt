@@ -16,7 +16,7 @@ use Rattle.lines.specs.Program.{lineAt}
 use Rattle.lines.proofs.Lines.{is-bad}
 use Rattle.lines.proofs.Search.{none-next, next-none}
 use Rattle.duration.specs.Lines.{someBefore}
-use Rattle.duration.specs.Loops.{nextOf, forCounter, counterOf, isInside, isNext, crosses}
+use Rattle.duration.specs.Loops.{nextOf, forCounter, counterAt, isInside, isNext, crosses}
 use Rattle.duration.specs.Loops.{startsInOwn, lacksNext, lacksFor, isTangled, endsInside}
 use Rattle.duration.specs.Ticks.{runTicks, isIdle, idlesAt, idles, hasBad}
 use Rattle.duration.specs.Reasons.{Loop, Tangled, crossing, inOwn, noNext, noFor, EndInside, inside, Idle, idle, BadBefore, bad}
@@ -71,13 +71,13 @@ module _ (p : List ℕ) (e : ℕ) (end : e < 200) where
   own-only : (j : ℕ) → j < e → startsInOwn p j ≡ true → Tangled p e
   unfolding startsInOwn
   own-only j lt t =
-      some-line (λ k. isInside p k j && eqb (counterOf p k) (counterOf p j)) j t λ k up u.
-      let b = both-true (isInside p k j) (eqb (counterOf p k) (counterOf p j)) u in
+      some-line (λ k. isInside p k j && eqb (counterAt p k) (counterAt p j)) j t λ k up u.
+      let b = both-true (isInside p k j) (eqb (counterAt p k) (counterAt p j)) u in
       let within = inside-says p k j (b .0) .1 in
-      let same = eqb-true (counterOf p k) (counterOf p j) (b .1) in
+      let same = eqb-true (counterAt p k) (counterAt p j) (b .1) in
       begins p k (omega arith) λ c x at.
       let above = counter-ranged p k c x at .0 in
-      let own : counterOf p j ≡ c = sym same ∙ counter-of p k at in
+      let own : counterAt p j ≡ c = sym same ∙ counter-of p k at in
       begins-so p j (omega arith) λ d y there.
       let z : d ≡ c = sym (counter-of p j there) ∙ own in
       let later = next-after p j (omega arith) d in
@@ -129,9 +129,9 @@ module _ (p : List ℕ) (e : ℕ) (end : e < 200) where
       (rw (within-loop one up before, lt-ltb (nextOf p k) (nextOf p j) far-on)) in
       at-line j (other .before) (rw z)
   tangled-so (inOwn {k} {c} {x} {m} {j} {y} {n} one other up before) =
-      let same : counterOf p k ≡ counterOf p j = counter-of p k (one .begins) ∙ sym (counter-of p j (other .begins)) in
-      let z = line-some (λ k. isInside p k j && eqb (counterOf p k) (counterOf p j)) j k up
-      (rw (within-loop one up before, eq-eqb (counterOf p k) (counterOf p j) same)) in
+      let same : counterAt p k ≡ counterAt p j = counter-of p k (one .begins) ∙ sym (counter-of p j (other .begins)) in
+      let z = line-some (λ k. isInside p k j && eqb (counterAt p k) (counterAt p j)) j k up
+      (rw (within-loop one up before, eq-eqb (counterAt p k) (counterAt p j) same)) in
       at-line j (other .before) (rw (z, or-true (crosses p j)))
   tangled-so (noNext {k} {c} {x} lt at none) =
       let z = eq-eqb (nextOf p k) 200 (next-of p k at ∙ none-next p c k (omega arith) none) in

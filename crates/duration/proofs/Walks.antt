@@ -15,7 +15,7 @@ use Rattle.lines.specs.declared.Line.{Line}
 use Rattle.lines.specs.declared.Line.the-variants.{State, For, Next, Bad}
 use Rattle.lines.specs.Program.{lineAt}
 use Rattle.duration.specs.Lines.{someBefore}
-use Rattle.duration.specs.Loops.{nextOf, counterOf, isInside}
+use Rattle.duration.specs.Loops.{nextOf, counterAt, isInside}
 use Rattle.duration.specs.Walk.{opened, openAt, isAcross, isAcrossOne}
 use Rattle.duration.proofs.Lines.{by-both, some-line, line-some, last-or-before}
 use Rattle.duration.proofs.Pairs.{same-next, counter-ranged, counter-of, begins-so, next-by, counted, pairs, later-next, inside, is-inside}
@@ -59,7 +59,7 @@ module _ (p : List ℕ) where
       go Bad e = e
 
   -- what the next line leaves for a counter: its own Next, if it is a For of that counter,
-  open-own : (i d : ℕ) → counterOf p i ≡ suc d → d < 4 → getD (openAt p (suc i)) d 0 ≡ nextOf p i
+  open-own : (i d : ℕ) → counterAt p i ≡ suc d → d < 4 → getD (openAt p (suc i)) d 0 ≡ nextOf p i
   unfolding openAt
   open-own i d is lt = begins-so p i (omega arith) λ c x at.
       let same : c - 1 ≡ d = let z = sym (counter-of p i at) ∙ is in omega arith in
@@ -67,7 +67,7 @@ module _ (p : List ℕ) where
       ∙ getD-set-same (openAt p i) d (nextOf p i) 0 (omega (arith, open-length i))
 
   -- and else what was there
-  open-other : (i d : ℕ) → counterOf p i ≢ suc d → getD (openAt p (suc i)) d 0 ≡ getD (openAt p i) d 0
+  open-other : (i d : ℕ) → counterAt p i ≢ suc d → getD (openAt p (suc i)) d 0 ≡ getD (openAt p i) d 0
   unfolding openAt
   open-other i d other = go (lineAt p i) refl
     where
@@ -83,30 +83,30 @@ module _ (p : List ℕ) where
       go Bad e = refl
 
   -- The Next of a For stands open up to it,
-  pub stays-open : (k d : ℕ) → counterOf p k ≡ suc d → d < 4 → (i : ℕ) → k < i → i ≤ 200 → i ≤ nextOf p k → getD (openAt p i) d 0 ≡ nextOf p k
+  pub stays-open : (k d : ℕ) → counterAt p k ≡ suc d → d < 4 → (i : ℕ) → k < i → i ≤ 200 → i ≤ nextOf p k → getD (openAt p i) d 0 ≡ nextOf p k
   stays-open k d is lt zero after le to = absurd (omega arith)
   stays-open k d is lt (suc m) after le to =
       last-or-before k m after (λ z. ap (λ i. getD (openAt p (suc i)) d 0) (sym z) ∙ open-own k d is lt)
-      (λ before. go (eqb (counterOf p m) (suc d)) refl before (stays-open k d is lt m before (omega arith) (omega arith)))
+      (λ before. go (eqb (counterAt p m) (suc d)) refl before (stays-open k d is lt m before (omega arith) (omega arith)))
     where
-      go : (t : Bool) → eqb (counterOf p m) (suc d) ≡ t → k < m → getD (openAt p m) d 0 ≡ nextOf p k → getD (openAt p (suc m)) d 0 ≡ nextOf p k
+      go : (t : Bool) → eqb (counterAt p m) (suc d) ≡ t → k < m → getD (openAt p m) d 0 ≡ nextOf p k → getD (openAt p (suc m)) d 0 ≡ nextOf p k
       go true e before there =
-          let own = eqb-true (counterOf p m) (suc d) e in
+          let own = eqb-true (counterAt p m) (suc d) e in
           let at-k = next-by p k is (omega arith) in
           open-own m d own lt ∙ next-by p m own (omega arith) ∙ later-next p (suc d) k m before (omega arith) (omega arith) ∙ sym at-k
-      go false e before there = open-other m d (eqb-false (counterOf p m) (suc d) e) ∙ there
+      go false e before there = open-other m d (eqb-false (counterAt p m) (suc d) e) ∙ there
 
   -- and what stands open is the Next of a For
   pub was-opened : {X : Type 0} (i d : ℕ) → d < 4 → 0 < getD (openAt p i) d 0
-      → ((k : ℕ) → k < i → counterOf p k ≡ suc d → nextOf p k ≡ getD (openAt p i) d 0 → X) → X
+      → ((k : ℕ) → k < i → counterAt p k ≡ suc d → nextOf p k ≡ getD (openAt p i) d 0 → X) → X
   was-opened zero d lt above h = absurd (omega (arith, at-first d, above))
-  was-opened {X} (suc i) d lt above h = go (eqb (counterOf p i) (suc d)) refl (λ up g. was-opened i d lt up g)
+  was-opened {X} (suc i) d lt above h = go (eqb (counterAt p i) (suc d)) refl (λ up g. was-opened i d lt up g)
     where
-      go : (t : Bool) → eqb (counterOf p i) (suc d) ≡ t
-          → (0 < getD (openAt p i) d 0 → ((k : ℕ) → k < i → counterOf p k ≡ suc d → nextOf p k ≡ getD (openAt p i) d 0 → X) → X) → X
-      go true e rest = let own = eqb-true (counterOf p i) (suc d) e in h i (omega arith) own (sym (open-own i d own lt))
+      go : (t : Bool) → eqb (counterAt p i) (suc d) ≡ t
+          → (0 < getD (openAt p i) d 0 → ((k : ℕ) → k < i → counterAt p k ≡ suc d → nextOf p k ≡ getD (openAt p i) d 0 → X) → X) → X
+      go true e rest = let own = eqb-true (counterAt p i) (suc d) e in h i (omega arith) own (sym (open-own i d own lt))
       go false e rest =
-          let other = open-other i d (eqb-false (counterOf p i) (suc d) e) in
+          let other = open-other i d (eqb-false (counterAt p i) (suc d) e) in
           rest (rw other at above) (λ k before is next. h k (omega arith) is (next ∙ sym other))
 
   -- ---- what that says

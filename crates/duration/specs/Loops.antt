@@ -39,8 +39,8 @@ forCounter (Next counter) = 0
 forCounter Bad = 0
 
 -- its counter, 0 where no For stands on line k
-unfoldable pub counterOf : List ℕ → ℕ → ℕ
-counterOf p k = forCounter (lineAt p k)
+unfoldable pub counterAt : List ℕ → ℕ → ℕ
+counterAt p k = forCounter (lineAt p k)
 
 -- line i is inside it; a For without a Next counts as open to line 199, but 040 is told of it before any test goes by that
 unfoldable pub isInside : List ℕ → ℕ → ℕ → Bool
@@ -60,7 +60,7 @@ crosses p j = someBefore (λ k. isInside p k j && ltb (nextOf p k) (nextOf p j))
 
 -- "one starts inside another of its counter"
 unfoldable pub startsInOwn : List ℕ → ℕ → Bool
-startsInOwn p j = someBefore (λ k. isInside p k j && eqb (counterOf p k) (counterOf p j)) j
+startsInOwn p j = someBefore (λ k. isInside p k j && eqb (counterAt p k) (counterAt p j)) j
 
 -- "a For has no Next"
 unfoldable pub lacksNext : List ℕ → ℕ → Bool

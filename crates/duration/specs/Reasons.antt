@@ -1,8 +1,8 @@
 -- The reasons of refusals, in the words of the sentence: what must be true of a program that is refused.
--- 02, item 6: "Refusals, first that applies: 030 a program not of 1,600 bytes [...]; 042 no State with time 0; a For before the first such line pairs with the
--- first later Next of its counter anywhere: 040 two
--- such loops cross, one starts inside another of its counter, a For has no Next, or a Next before that line has no For; 041 that line is
--- inside a loop; 044 a loop with count above 0 whose body takes 0 ticks; 014 a Bad line before it; 043 more than 9,999,999,999 ticks".
+-- 02, item 6: "Refusals, first that applies: 030 a program not of 1,600 bytes [...]; 042 no State with time 0; a For before the first such
+-- line pairs with the first later Next of its counter anywhere: 040 two such loops cross, one starts inside another of its counter, a For has no
+-- Next, or a Next before that line has no For; 041 that line is inside a loop; 044 a loop with count above 0 whose body takes 0 ticks; 014 a
+-- Bad line before it; 043 more than 9,999,999,999 ticks".
 use Prim.Native.Nat.{ℕ, _+_, _<_}
 use mathlib.Core.Path.{_≡_}
 use mathlib.Core.Logic.{_≢_}
@@ -44,7 +44,7 @@ pub data Tangled (p : List ℕ) (e : ℕ) : Type 0 where
 pub data EndInside (p : List ℕ) (e : ℕ) : Type 0 where
   inside : {k c x n : ℕ} → Loop p e k c x n → e < n → EndInside p e
 
--- "a loop with count above 0 whose body takes 0 ticks"
+-- "a loop with count above 0 whose body takes 0 ticks"; what lines take is held by `Ticks.run-state`, `run-loop`, `run-next` and `run-bad`
 pub data Idle (p : List ℕ) (e : ℕ) : Type 0 where
   idle : {k c x n : ℕ} → Loop p e k c x n → 0 < x → runTicks p (k + 1) n ≡ 0 → Idle p e
 
