@@ -190,7 +190,8 @@ size_t nizhalepu_list(const uint8_t *log, size_t log_length, uint8_t *text, size
 
 /* ---- how long a program takes. It needs no record; the program may be any bytes, of any number, and is only read.
  *
- * The number is that of the unpaused ticks from a start at line 000 to event 011. The end is the first State with
+ * The number is that of the unpaused ticks from a start at line 000 to event 011, where nobody stops the program. It
+ * is reckoned without the end of the tick count, at which further ticks are refused (NIZHALEPU_LAST_TICK). The end is the first State with
  * time 0; a For above it and the first later Next of its counter are a loop. A program without a number has the
  * first of these refusals that applies, in this order. They go by every line above the end, also by one in a loop
  * of none, which is never run. */

@@ -99,6 +99,8 @@ def main(count, seed):
         met["E%03d" % refusal if refusal else "ran" if ticks <= TICKS_MOST else "too long"] += 1
     print(f"{met['ran']} of {count} programs ran, each to event 011 in the tick of the report "
           f"({', '.join(f'{name} {number}' for name, number in sorted(met.items()))})")
+    if 2 * met["ran"] < count or count == 0:
+        sys.exit("durations_by_ticking.py: too few programs ran to show anything")
 
 
 if __name__ == "__main__":

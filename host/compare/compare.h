@@ -9,7 +9,7 @@ int compare_calls(uint64_t calls, uint64_t seed, const char *logs);
 int compare_speed(void);
 int compare_stack(void);
 int compare_limits(void);
-/* `path` names a file that gets every program and what the proved library says of it, or is NULL. */
+/* `path` names a file that gets every program of 1,600 bytes and what the proved library says of it, or is NULL. */
 int compare_durations(uint64_t programs, uint64_t seed, const char *path);
 int compare_ticking(uint64_t programs, uint64_t seed);
 

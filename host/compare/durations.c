@@ -11,12 +11,15 @@
 #include <stdio.h>
 #include <string.h>
 
-enum { ENOUGH = 10000, REFUSALS = 8 }; /* programs from which on the shares say something; the accepted ones are a row of the report too */
+enum {
+    ENOUGH = 10000, /* programs from which on the shares say something */
+    ROWS = 8        /* of the report: the seven refusals, and the programs that have a number */
+};
 
 static const struct {
     uint8_t refusal;
     const char *name;
-} rows[REFUSALS] = {
+} rows[ROWS] = {
     {NIZHALEPU_ACCEPTED, "a number of ticks"},
     {NIZHALEPU_BAD_PROGRAM, "030 not of 1,600 bytes"},
     {NIZHALEPU_NO_END, "042 no State with time 0"},
@@ -31,7 +34,7 @@ struct durations {
     uint64_t programs;
     uint64_t seed;
     uint64_t done;
-    uint64_t met[REFUSALS];
+    uint64_t met[ROWS];
     uint64_t met_other; /* a refusal that is none of these */
     uint64_t met_most;  /* programs of exactly 9,999,999,999 ticks */
     FILE *file;         /* gets programs and answers, or NULL */
@@ -72,8 +75,8 @@ static void keep(const struct durations *durations, const struct nest *nest, con
 static void count(struct durations *durations, const struct nizhalepu_duration *proved)
 {
     unsigned row = 0;
-    while (row < REFUSALS && rows[row].refusal != proved->refusal) row++;
-    if (row == REFUSALS)
+    while (row < ROWS && rows[row].refusal != proved->refusal) row++;
+    if (row == ROWS)
         durations->met_other++;
     else
         durations->met[row]++;
@@ -145,7 +148,7 @@ static int finish(const struct durations *durations, double seconds)
 {
     bool met = durations->met_most > 0 && durations->met_other == 0;
     printf("%" PRIu64 " programs on both in %.1f s: equal in every refusal and in every number of ticks.\n", durations->done, seconds);
-    for (unsigned row = 0; row < REFUSALS; row++) {
+    for (unsigned row = 0; row < ROWS; row++) {
         double share = 100.0 * (double)durations->met[row] / (double)durations->done;
         printf("  %-52s %12" PRIu64 " %8.2f %%\n", rows[row].name, durations->met[row], share);
         met = met && share >= 1;

@@ -1,9 +1,11 @@
 #include "nests.h"
 
+#include "durations.h"
+
 #include <stdio.h>
 #include <string.h>
 
-static const uint64_t most = 9999999999u;
+static const uint64_t most = DURATION_MOST;
 
 /* What sort of program it becomes. */
 struct knobs {

@@ -129,7 +129,7 @@ static void print_report(const struct ticking *ticking, double seconds)
     printf("  %-52s %12" PRIu64 "\n", "and with a loop of none before the end", ticking->nones);
     printf("  %-52s %12" PRIu64 "\n", "their ticks", ticking->ticks);
     printf("  %-52s %12" PRIu64 "\n", "refused, not run", ticking->refused);
-    printf("  %-52s %12" PRIu64 "\n", "more than 1,000 ticks, not run", ticking->long_ones);
+    printf("  more than %4d ticks, not run %23s %12" PRIu64 "\n", TICKS_MOST, "", ticking->long_ones);
     printf("  %-52s %12u\n", "the most For and Next lines of one call", ticking->lines);
 }
 

@@ -178,7 +178,10 @@ def constant_memory(command):
         last = peaks(talk.process.pid)
         equal(talk.end(), b"E043\n", "the total")
     # a helper of the command that started meanwhile has no peak before
-    for which in first.keys() & last.keys():
+    both = first.keys() & last.keys()
+    if last and not both:
+        raise AssertionError("no process was there from 100 programs to 20,000")
+    for which in both:
         if last[which] > first[which] + SLACK:
             raise AssertionError(f"{which[1]}: the peak is {first[which]} kB after 100 programs and {last[which]} kB after 20,000")
 

@@ -4,7 +4,7 @@
 use mathlib.Core.Path.{_≡_, refl, sym, ap, _∙_}
 use mathlib.Core.Logic.{_≢_}
 use Prim.Native.Nat.{ℕ}
-use mathlib.Core.Bool.{Bool, true, false, not, _&&_, true≢false}
+use mathlib.Core.Bool.{Bool, true, false, not, true≢false}
 use mathlib.Core.List.{List, [], _∷_, _++_}
 use borrow.Author.Tests.{eq-eqb}
 use Rattle.formats.specs.Checks.{if_then_else_, Res, refused, passed, _>>_, _orElse_, all}
@@ -24,6 +24,7 @@ use Rattle.demands.proofs.Agrees.{Agrees}
 use Rattle.demands.proofs.Telling.{told-more}
 use Rattle.demands.proofs.LogLeft.{held-as-counted}
 use Rattle.demands.proofs.AsTold.{held-as-told}
+use Rattle.formats.proofs.Checks.{and-true}
 
 -- ---- checks
 
@@ -67,10 +68,6 @@ refusal-checked k c a = go (check k c a)
     go (passed ok) = refl
 
 -- ---- what they ask
-
-and-true : (a : Bool) → (a && true) ≡ a
-and-true true = refl
-and-true false = refl
 
 module _ (t : Told) (c : Controller) (a : Areas) (g : Agrees t c) where
   refused-by : (k : Call) → refusedBy (check k c a) ≡ refusalOf (heldBytes (c .log)) t k a

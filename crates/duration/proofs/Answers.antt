@@ -23,7 +23,8 @@ use Rattle.duration.specs.Summing.{capped, sumOf, Nests}
 use Rattle.duration.proofs.Faults.{inside-is}
 use Rattle.duration.proofs.FirstEnd.{end-within, end-is}
 use Rattle.duration.proofs.Judging.{nests}
-use Rattle.duration.proofs.Summing.{capped-small, capped-large, in-all}
+use Rattle.duration.proofs.Capping.{capped-small, capped-large}
+use Rattle.duration.proofs.Summing.{in-all}
 
 -- a check that refuses, and one that passes
 stops-here : {A : Type 0} {t : Bool} (e : ℕ) (r : Res A) → t ≡ false → ((t orElse e) >> r) ≡ refused e
@@ -133,7 +134,9 @@ module _ (p : List ℕ) (size : length p ≡ 1600) (e : ℕ) (is : e ≡ endLine
                       above n lt = go (leb n mostTicks) refl
                         where
                           go : (t : Bool) → leb n mostTicks ≡ t → mostTicks < n
-                          go true le = let z = capped-small n (omega (arith, leb-true n mostTicks le)) in absurd (omega (arith, z, leb-true n mostTicks le, lt))
+                          go true le =
+                              let z = capped-small mostTicks n (omega (arith, leb-true n mostTicks le)) in
+                              absurd (omega (arith, z, leb-true n mostTicks le, lt))
                           go false gt = leb-false n mostTicks gt
 
                   pub told : s .ticks ≤ mostTicks → Takes (s .ticks) ≡ answerOf (report p)
@@ -145,5 +148,5 @@ module _ (p : List ℕ) (size : length p ≡ 1600) (e : ℕ) (is : e ≡ endLine
                       small n lt = go (leb n mostTicks) refl
                         where
                           go : (t : Bool) → leb n mostTicks ≡ t → n ≡ capped n
-                          go true le = sym (capped-small n (omega (arith, leb-true n mostTicks le)))
-                          go false gt = let z = capped-large n (omega (arith, leb-false n mostTicks gt)) in absurd (omega (arith, z, lt))
+                          go true le = sym (capped-small mostTicks n (omega (arith, leb-true n mostTicks le)))
+                          go false gt = let z = capped-large mostTicks n (omega (arith, leb-false n mostTicks gt)) in absurd (omega (arith, z, lt))

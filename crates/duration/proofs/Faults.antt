@@ -9,16 +9,16 @@ use mathlib.Core.List.{List}
 use lib.ListN.{getD}
 use lib.Dec.{leb, ltb, eqb}
 use borrow.Author.Tests.{leb-true, le-leb, ltb-true, lt-ltb, eqb-true, eqb-false, eq-eqb, ne-eqb}
-use Rattle.formats.proofs.Checks.{both-true, either-true, or-true, or-false}
+use Rattle.formats.proofs.Checks.{both-true, either-true, or-true, or-false, and-true, by-both, not-so}
 use Rattle.lines.specs.declared.Line.{Line}
 use Rattle.lines.specs.declared.Line.the-variants.{State, For, Next, Bad}
 use Rattle.lines.specs.Program.{lineAt}
 use Rattle.duration.specs.Lines.{someBefore}
 use Rattle.duration.specs.Loops.{nextOf, counterAt, isInside, isNext, crosses, startsInOwn, lacksNext, lacksFor, isTangled, endsInside}
 use Rattle.duration.specs.Walk.{openAt, isAcrossOne, isFault}
-use Rattle.duration.proofs.Lines.{by-both, not-so, some-line, line-some, some-same}
-use Rattle.duration.proofs.Pairs.{same-next, counter-ranged, next-ranged, counter-of, next-of, begins}
-use Rattle.duration.proofs.Pairs.{next-by, counted, of-within, pairs, later-next, inside}
+use Rattle.duration.proofs.Lines.{some-line, line-some, some-same}
+use Rattle.duration.proofs.Pairs.{same-next, counter-ranged, next-ranged, counter-of, begins, counted, of-within, pairs, own-next, inside}
+use Rattle.duration.proofs.Pairs.{same-next, counter-ranged, next-ranged, counter-of, begins, counted, of-within, pairs, own-next, inside}
 use Rattle.duration.proofs.Walks.{across, has-for}
 
 module _ (p : List ℕ) (j : ℕ) where
@@ -61,19 +61,12 @@ module _ (p : List ℕ) (j : ℕ) where
         let less = ltb-true (nextOf p k) (nextOf p j) (b .1) in
         line-some (λ k. isInside p k j && leb (nextOf p k) (nextOf p j)) j k up (rw (b .0, le-leb (nextOf p k) (nextOf p j) (omega arith)))
 
-    -- the loops of one counter around it have its Next
-    own-next : (k : ℕ) → k < j → j < nextOf p k → counterAt p k ≡ counterAt p j → nextOf p j ≡ nextOf p k
-    own-next k before in-it same =
-        let own : counterAt p k ≡ c = same ∙ counter-of p j is in
-        let above = counter-ranged p j c x is .0 in
-        let at-k = next-by p k own above in
-        next-of p j is ∙ later-next p c k j before lt (omega arith) ∙ sym at-k
-
     own-around : startsInOwn p j ≡ true → Around ≡ true
     unfolding startsInOwn Around
     own-around e = some-line (λ k. isInside p k j && eqb (counterAt p k) (counterAt p j)) j e λ k up t.
         let b = both-true (isInside p k j) (eqb (counterAt p k) (counterAt p j)) t in
-        let z = own-next k up (inside p k j (b .0) .1) (eqb-true _ _ (b .1)) in
+        let own = counter-of p j is in
+        let z = own-next p k j c (eqb-true (counterAt p k) (counterAt p j) (b .1) ∙ own) own (counter-ranged p j c x is .0) up lt (inside p k j (b .0) .1) in
         line-some (λ k. isInside p k j && leb (nextOf p k) (nextOf p j)) j k up (rw (b .0, le-leb (nextOf p k) (nextOf p j) (omega arith)))
 
     -- and those of one Next have one counter
@@ -135,7 +128,7 @@ module _ (p : List ℕ) (j : ℕ) where
   unfolding lacksFor
   no-for-next l is e = rw (is, e)
 
-  pub fault-is : j < 200 → (crosses p j || startsInOwn p j || lacksNext p j || lacksFor p j) ≡ isFault (lineAt p j) j (nextOf p j) (openAt p j)
+  fault-is : j < 200 → (crosses p j || startsInOwn p j || lacksNext p j || lacksFor p j) ≡ isFault (lineAt p j) j (nextOf p j) (openAt p j)
   unfolding nextOf counterAt Around
   fault-is lt = go (lineAt p j) refl
     where
@@ -157,7 +150,3 @@ inside-is p e le =
     some-same (λ k. isInside p k e) (λ k. isInside p k e && leb (nextOf p k) 200) e
     (λ k lt. sym (ap (λ u. isInside p k e && u) (le-leb (nextOf p k) 200 (of-within p k (omega arith))) ∙ and-true (isInside p k e)))
     ∙ across p e le 200
-  where
-    and-true : (a : Bool) → (a && true) ≡ a
-    and-true true = refl
-    and-true false = refl

@@ -7,6 +7,7 @@ pub mod Arriving
 pub mod Turns
 pub mod Passing
 pub mod Number
+pub mod Capping
 pub mod Summing
 pub mod Totals
 pub mod OtherKinds

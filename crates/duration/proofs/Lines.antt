@@ -5,21 +5,11 @@ use native.Mathlib.Omega.{arith}
 use mathlib.Core.Path.{_≡_, refl, sym, ap, _∙_}
 use mathlib.Core.Logic.{_≢_}
 use mathlib.Core.Bool.{Bool, true, false, false≢true, true≢false}
+use lib.ListN.{getD, replicate}
 use lib.Dec.{eqb}
 use borrow.Author.Tests.{eqb-true, eqb-false}
-use Rattle.formats.proofs.Checks.{either-true, or-true}
+use Rattle.formats.proofs.Checks.{either-true, or-true, by-both, not-so}
 use Rattle.duration.specs.Lines.{someBefore, firstOf}
-
--- two tests that say the same
-pub by-both : (a b : Bool) → (a ≡ true → b ≡ true) → (b ≡ true → a ≡ true) → a ≡ b
-by-both true b f g = sym (f refl)
-by-both false true f g = g refl
-by-both false false f g = refl
-
--- what is not true is false
-pub not-so : (a : Bool) → (a ≡ true → ⊥) → a ≡ false
-not-so true f = absurd (f refl)
-not-so false f = refl
 
 -- a line, or an earlier one
 pub last-or-before : {X : Type 0} (k n : ℕ) → k < suc n → (k ≡ n → X) → (k < n → X) → X
@@ -28,6 +18,12 @@ last-or-before {X} k n lt f g = go (eqb k n) refl
     go : (t : Bool) → eqb k n ≡ t → X
     go true e = f (eqb-true k n e)
     go false e = let ne : k ≢ n = eqb-false k n e in g (omega arith)
+
+-- an element of a list of equal ones, or behind its end
+pub replicated : {A : Type 0} (n : ℕ) (x : A) (i : ℕ) → getD (replicate n x) i x ≡ x
+replicated zero x i = refl
+replicated (suc n) x zero = refl
+replicated (suc n) x (suc i) = replicated n x i
 
 -- ---- some line
 
@@ -62,15 +58,15 @@ pub record First (f : ℕ → Bool) (k n m : ℕ) : Type 0 where
   pub passes : m < n → f m ≡ true
   pub noneBefore : (i : ℕ) → k ≤ i → i < m → f i ≡ false
 
-pub first-here : (f : ℕ → Bool) (n k : ℕ) → f k ≡ true → firstOf f (suc n) k ≡ k
+first-here : (f : ℕ → Bool) (n k : ℕ) → f k ≡ true → firstOf f (suc n) k ≡ k
 unfolding firstOf
 first-here f n k e = ap (λ (t : Bool). elim t [ true ↦ k | false ↦ firstOf f n (k + 1) ]) e
 
-pub first-on : (f : ℕ → Bool) (n k : ℕ) → f k ≡ false → firstOf f (suc n) k ≡ firstOf f n (k + 1)
+first-on : (f : ℕ → Bool) (n k : ℕ) → f k ≡ false → firstOf f (suc n) k ≡ firstOf f n (k + 1)
 unfolding firstOf
 first-on f n k e = ap (λ (t : Bool). elim t [ true ↦ k | false ↦ firstOf f n (k + 1) ]) e
 
-pub first-none : (f : ℕ → Bool) (k : ℕ) → firstOf f 0 k ≡ k
+first-none : (f : ℕ → Bool) (k : ℕ) → firstOf f 0 k ≡ k
 unfolding firstOf
 first-none f k = refl
 

@@ -1,10 +1,9 @@
 -- The number is the running rule's: a sound program takes as many ticks as its lines do.
 -- Assumes nothing.
-use Prim.Native.Nat.{ℕ, zero, suc, _-_}
+use Prim.Native.Nat.{ℕ, _-_}
 use native.Mathlib.Omega.{arith}
 use mathlib.Core.Path.{_≡_, refl, ap, _∙_}
 use mathlib.Core.List.{List}
-use lib.ListN.{getD}
 use Rattle.lines.specs.declared.Line.the-variants.{State}
 use Rattle.lines.specs.Program.{lineAt}
 use Rattle.running.specs.declared.Ran.{Ran}
@@ -12,24 +11,17 @@ use Rattle.running.specs.Running.{free, allFree, begun, stopped, withOutputs, s
 use Rattle.running.proofs.Steps.{end-mark}
 use Rattle.duration.specs.ByTheRule.{after, EndsAfter}
 use Rattle.duration.specs.Ticks.{runTicks}
+use Rattle.duration.proofs.Lines.{replicated}
 use Rattle.duration.proofs.Arriving.{Arrives, Free, Passes}
 use Rattle.duration.proofs.Sound.{Sound, whole}
 use Rattle.duration.proofs.Passing.{passes}
-
--- all counters are free
-all-free : (c : ℕ) → getD allFree c free ≡ free
-all-free zero = refl
-all-free (suc zero) = refl
-all-free (suc (suc zero)) = refl
-all-free (suc (suc (suc zero))) = refl
-all-free (suc (suc (suc (suc c)))) = refl
 
 module _ (p : List ℕ) (e : ℕ) (s : Sound p e) (o : ℕ) (mark : lineAt p e ≡ State o 0) (outputs : ℕ) where
   arrives : Arrives p (start p 0 outputs) (runTicks p 0 e) e allFree 0 (e - 0)
   unfolding start Passes Free
   arrives =
       passes p e s e 0 e (omega arith) (omega arith) (omega arith) (whole p e s)
-      allFree refl (λ k c x from to is. all-free (c - 1)) (begun 0 outputs) (record { on = refl; line = refl; counters = refl }) 0 400 (omega arith)
+      allFree refl (λ k c x from to is. replicated 4 free (c - 1)) (begun 0 outputs) (record { on = refl; line = refl; counters = refl }) 0 400 (omega arith)
       (omega (arith, s .inProgram))
 
   ends-so : (a : Arrives p (start p 0 outputs) (runTicks p 0 e) e allFree 0 (e - 0)) → EndsAfter p (runTicks p 0 e) (start p 0 outputs)

@@ -11,6 +11,7 @@ use borrow.Author.Tests.{eqb-true, eqb-false, ltb-true, lt-ltb, leb-true}
 use Rattle.formats.proofs.Checks.{both-true}
 use Rattle.lines.specs.declared.Line.{Line}
 use Rattle.lines.specs.declared.Line.the-variants.{State, For, Next, Bad}
+use Rattle.lines.specs.Line.{isCounter}
 use Rattle.lines.specs.Program.{lineAt, nextAfter, FirstFrom}
 use Rattle.lines.proofs.Places.{line-ranged}
 use Rattle.lines.proofs.Search.{next-first, first-next, none-next, next-none}
@@ -34,18 +35,15 @@ same-next e = ap named e
     named (Next c) = c
     named Bad = 0
 
--- a For has a counter of 1 to 4
+-- a counter is 1 to 4
+ranged : (c : ℕ) → isCounter c ≡ true → (1 ≤ c) × (c ≤ 4)
+ranged c e = let b = both-true (leb 1 c) (leb c 4) e in (leb-true 1 c (b .0), leb-true c 4 (b .1))
+
 pub counter-ranged : (p : List ℕ) (k c x : ℕ) → lineAt p k ≡ For c x → (1 ≤ c) × (c ≤ 4)
-counter-ranged p k c x is =
-    let r = rw is at (line-ranged p k) in
-    let b = both-true (leb 1 c) (leb c 4) (r .range .0) in
-    (leb-true 1 c (b .0), leb-true c 4 (b .1))
+counter-ranged p k c x is = let r = rw is at (line-ranged p k) in ranged c (r .range .0)
 
 pub next-ranged : (p : List ℕ) (k c : ℕ) → lineAt p k ≡ Next c → (1 ≤ c) × (c ≤ 4)
-next-ranged p k c is =
-    let r = rw is at (line-ranged p k) in
-    let b = both-true (leb 1 c) (leb c 4) (r .range) in
-    (leb-true 1 c (b .0), leb-true c 4 (b .1))
+next-ranged p k c is = let r = rw is at (line-ranged p k) in ranged c (r .range)
 
 -- ---- a For and its Next
 
@@ -95,21 +93,18 @@ module _ (p : List ℕ) (k : ℕ) where
       one-up c le = omega arith
 
   module _ (in-program : k < 200) where
-    -- the Next stands behind its For,
-    pub next-after : (c : ℕ) → k < nextAfter p c k
-    next-after c = go (eqb (nextAfter p c k) 200) refl
+    -- the Next stands behind its For, and in the program, if there is one
+    next-range : (c : ℕ) → (k < nextAfter p c k) × (nextAfter p c k ≤ 200)
+    next-range c = go (eqb (nextAfter p c k) 200) refl
       where
-        go : (t : Bool) → eqb (nextAfter p c k) 200 ≡ t → k < nextAfter p c k
-        go true e = let is : nextAfter p c k ≡ 200 = eqb-true _ _ e in omega arith
-        go false e = omega (arith, next-first p c k in-program (eqb-false _ _ e) .notBefore)
+        go : (t : Bool) → eqb (nextAfter p c k) 200 ≡ t → (k < nextAfter p c k) × (nextAfter p c k ≤ 200)
+        go true e = let is : nextAfter p c k ≡ 200 = eqb-true _ _ e in (omega arith, omega arith)
+        go false e =
+            let f = next-first p c k in-program (eqb-false _ _ e) in
+            (omega (arith, f .notBefore), omega (arith, f .inProgram))
 
-    -- and in the program, if there is one
-    pub next-within : (c : ℕ) → nextAfter p c k ≤ 200
-    next-within c = go (eqb (nextAfter p c k) 200) refl
-      where
-        go : (t : Bool) → eqb (nextAfter p c k) 200 ≡ t → nextAfter p c k ≤ 200
-        go true e = let is : nextAfter p c k ≡ 200 = eqb-true _ _ e in omega arith
-        go false e = omega (arith, next-first p c k in-program (eqb-false _ _ e) .inProgram)
+    pub next-after : (c : ℕ) → k < nextAfter p c k
+    next-after c = next-range c .0
 
     pub of-within : nextOf p k ≤ 200
     unfolding nextOf
@@ -117,7 +112,7 @@ module _ (p : List ℕ) (k : ℕ) where
       where
         go : (l : Line) → nextFor p k l ≤ 200
         go (State o t) = omega arith
-        go (For c x) = next-within c
+        go (For c x) = next-range c .1
         go (Next c) = omega arith
         go Bad = omega arith
 
@@ -145,6 +140,12 @@ later-next p c k i lt up before = go (eqb (nextAfter p c k) 200) refl
     go false e =
         let f = next-first p c k (omega arith) (eqb-false _ _ e) in
         first-next p c i up (nextAfter p c k) (first-later f (omega arith) (omega arith))
+
+-- the loops of one counter around a line have one Next
+pub own-next : (p : List ℕ) (k j c : ℕ) → counterAt p k ≡ c → counterAt p j ≡ c → 0 < c → k < j → j < 200 → j < nextOf p k → nextOf p j ≡ nextOf p k
+own-next p k j c one other above up lt before =
+    let at-k = next-by p k one above in
+    next-by p j other above ∙ later-next p c k j up lt (omega arith) ∙ sym at-k
 
 -- what "inside" says
 pub inside : (p : List ℕ) (k i : ℕ) → isInside p k i ≡ true → (k < i) × (i < nextOf p k)

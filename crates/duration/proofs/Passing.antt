@@ -79,7 +79,7 @@ module _ (p : List ℕ) (e : ℕ) (s : Sound p e) where
       some : left ≡ suc (left - 1)
       some = omega arith
 
-      -- what is behind the loop, when it was left in t ticks
+      -- the loop is left, in its count times the ticks of its body
       Loop : Type 0
       Loop = Arrives p (runDue p left n r) (x * runTicks p (i + 1) (nextOf p i)) (nextOf p i + 1) cs n (nextOf p i + 1 - i)
 

@@ -44,7 +44,7 @@ module _ (p : List ℕ) where
           rw at (b .before (m - s) (omega arith))
 
   -- a tick more
-  pub by-tick : {x y : Ran} {t : ℕ} → Runs x → Reaches p (tick p (x .run)) t y → Reaches p x (suc t) y
+  by-tick : {x y : Ran} {t : ℕ} → Runs x → Reaches p (tick p (x .run)) t y → Reaches p x (suc t) y
   unfolding after
   by-tick {x} {y} {t} runs r = record { there = r .there; before = go }
     where

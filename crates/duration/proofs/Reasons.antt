@@ -8,7 +8,7 @@ use mathlib.Core.Bool.{Bool, true, false, _&&_, _||_, not, true≢false, false�
 use mathlib.Core.List.{List}
 use lib.Dec.{ltb, eqb}
 use borrow.Author.Tests.{ltb-true, lt-ltb, eqb-true, eqb-false, eq-eqb, not-true}
-use Rattle.formats.proofs.Checks.{both-true, either-true, or-true}
+use Rattle.formats.proofs.Checks.{both-true, either-true, or-true, not-so}
 use Rattle.lines.specs.declared.Line.{Line}
 use Rattle.lines.specs.declared.Line.the-variants.{State, For, Next, Bad}
 use Rattle.lines.specs.Line.{isBad}
@@ -20,7 +20,7 @@ use Rattle.duration.specs.Loops.{nextOf, forCounter, counterAt, isInside
 use Rattle.duration.specs.Loops.{startsInOwn, lacksNext, lacksFor, isTangled, endsInside}
 use Rattle.duration.specs.Ticks.{runTicks, isIdle, idlesAt, idles, hasBad}
 use Rattle.duration.specs.Reasons.{Loop, Tangled, crossing, inOwn, noNext, noFor, EndInside, inside, Idle, idle, BadBefore, bad}
-use Rattle.duration.proofs.Lines.{some-line, line-some, not-so}
+use Rattle.duration.proofs.Lines.{some-line, line-some}
 use Rattle.duration.proofs.Pairs.{counter-ranged, counter-of, next-of, next-after, begins, begins-so, pairs, paired, is-inside}
 use Rattle.duration.proofs.Pairs.{inside as inside-says}
 

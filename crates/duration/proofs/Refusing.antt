@@ -69,8 +69,8 @@ module _ (p : List ℕ) where
   refused-for r is = err-at (Reason p) all-reasons is
 
   -- So 0 is no refusal's number.
-  pub refusal-told : report p ≡ refused 0 → ⊥
-  refusal-told is = go (refused-for 0 is)
+  pub zero-not-told : report p ≡ refused 0 → ⊥
+  zero-not-told is = go (refused-for 0 is)
     where
       go : Reason p 0 → ⊥
       go (e030 z _) = omega arith

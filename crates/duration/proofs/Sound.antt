@@ -22,6 +22,10 @@ pub record Closes (p : List ℕ) (i m : ℕ) : Type 0 where
   pub earlier : k < m
   pub next : nextOf p k ≡ m
 
+-- the For stands later, if it is not on line i
+closes-later : {p : List ℕ} {i m : ℕ} (q : Closes p i m) → q .k ≢ i → Closes p (i + 1) m
+closes-later q other = record { k = q .k; from = omega (arith, q .from, other); earlier = q .earlier; next = q .next }
+
 pub record Sound (p : List ℕ) (e : ℕ) : Type 0 where
   pub inProgram : e < 200
   pub timed : (i o t : ℕ) → i < e → lineAt p i ≡ State o t → 0 < t
@@ -59,7 +63,7 @@ module _ (p : List ℕ) (e : ℕ) (s : Sound p e) where
             let other : q .k ≢ i = λ same.
             let here : 0 < nextOf p i = let n : nextOf p i ≡ m = ap (nextOf p) (sym same) ∙ q .next in omega arith in
             begins p i here plain in
-            record { k = q .k; from = omega (arith, q .from, other); earlier = q .earlier; next = q .next }
+            closes-later q other
 
     module _ {c x : ℕ} (is : lineAt p i ≡ For c x) where
       after : i < nextOf p i
@@ -76,7 +80,7 @@ module _ (p : List ℕ) (e : ℕ) (s : Sound p e) where
           nexts m d from before at =
               let q = w .nexts m d (omega arith) (omega (arith, inside)) at in
               let other : q .k ≢ i = λ same. let z : nextOf p i ≡ m = ap (nextOf p) (sym same) ∙ q .next in omega arith in
-              record { k = q .k; from = omega (arith, q .from, other); earlier = q .earlier; next = q .next }
+              closes-later q other
 
       -- a For that is not before this one and ends behind its Next begins behind it too
       beyond : (k : ℕ) → i ≤ k → k < e → nextOf p i < nextOf p k → nextOf p i < k

@@ -1,15 +1,15 @@
 -- Laws of sums: a sum of lines is that of its first line, or loop, and that of the lines after it.
 -- Assumes nothing.
-use Prim.Native.Nat.{ℕ, zero, suc, _+_, _*_, _≤_, _<_}
+use Prim.Native.Nat.{ℕ, _+_, _*_, _≤_, _<_}
 use native.Mathlib.Omega.{arith}
-use native.Mathlib.Nat.{zero-add, zero-mul, mul-zero, suc-mul, mul-comm, mul-le-mul}
+use native.Mathlib.Nat.{zero-add, zero-mul, mul-zero, mul-comm, mul-le-mul}
 use mathlib.Core.Path.{_≡_, refl, sym, ap, ap₂, _∙_}
 use mathlib.Core.Logic.{_≢_}
 use mathlib.Core.Bool.{Bool, true, false, _&&_, _||_}
 use mathlib.Core.List.{List}
 use lib.Dec.{leb, ltb, eqb}
 use borrow.Author.Tests.{leb-true, leb-false, le-leb, eqb-true, eqb-false, eq-eqb, ne-eqb, lt-ltb}
-use Rattle.formats.proofs.Checks.{both-true, either-true, or-true, or-false}
+use Rattle.formats.proofs.Checks.{both-true, either-true, or-true, or-false, by-both, not-so}
 use Rattle.lines.specs.declared.Line.{Line}
 use Rattle.lines.specs.declared.Line.the-variants.{State, For, Next, Bad}
 use Rattle.lines.specs.Line.{isBad}
@@ -18,60 +18,12 @@ use Rattle.duration.specs.declared.sums.Sum.{Sum}
 use Rattle.duration.specs.Lines.{someBefore}
 use Rattle.duration.specs.Loops.{nextOf}
 use Rattle.duration.specs.Ticks.{runTicks, isIdle, idlesAt}
-use Rattle.duration.specs.Summing.{capped, noSum, plainSum, joined, repeated, someIn, sumOf, Nests}
-use Rattle.duration.proofs.Lines.{by-both, not-so, some-line, line-some}
+use Rattle.duration.specs.Summing.{moreTicks, capped, noSum, plainSum, joined, repeated, someIn, sumOf, Nests}
+use Rattle.duration.specs.Report.{mostTicks}
+use Rattle.duration.proofs.Capping.{capped-le, capped-small, capped-left, capped-right, capped-times, capped-zero}
+use Rattle.duration.proofs.Lines.{some-line, line-some}
 use Rattle.duration.proofs.Pairs.{next-of, next-after, pairs}
 use Rattle.duration.proofs.Ticks.{run-none, run-state, run-loop, run-next, run-bad}
-
-abbrev cap : ℕ
-cap = 10000000000
-
--- ---- ticks up to one more than are told
-
-pub capped-le : (n : ℕ) → capped n ≤ cap
-unfolding capped
-capped-le n = omega arith
-
-pub capped-small : (n : ℕ) → n ≤ cap → capped n ≡ n
-unfolding capped
-capped-small n le = omega arith
-
-capped-left : (a b : ℕ) → capped (capped a + b) ≡ capped (a + b)
-unfolding capped
-capped-left a b = omega arith
-
-capped-right : (a b : ℕ) → capped (a + capped b) ≡ capped (a + b)
-unfolding capped
-capped-right a b = omega arith
-
-pub capped-large : (n : ℕ) → cap ≤ n → capped n ≡ cap
-unfolding capped
-capped-large n le = omega arith
-
-pub capped-zero : (n : ℕ) → eqb (capped n) 0 ≡ eqb n 0
-capped-zero n =
-    by-both _ _ (λ e. eq-eqb n 0 (only n (eqb-true _ _ e))) (λ e. eq-eqb _ 0 (ap capped (eqb-true n 0 e) ∙ capped-small 0 (omega arith)))
-  where
-    only : (m : ℕ) → capped m ≡ 0 → m ≡ 0
-    only m z = go (leb m cap) refl
-      where
-        go : (t : Bool) → leb m cap ≡ t → m ≡ 0
-        go true e = sym (capped-small m (leb-true m cap e)) ∙ z
-        go false e = let w = capped-large m (omega (arith, leb-false m cap e)) in absurd (omega arith)
-
--- so many times
-pub capped-times : (x n : ℕ) → capped (x * capped n) ≡ capped (x * n)
-capped-times zero n = ap capped (zero-mul (capped n) ∙ sym (zero-mul n))
-capped-times (suc x) n = go (leb n cap) refl
-  where
-    go : (t : Bool) → leb n cap ≡ t → capped (suc x * capped n) ≡ capped (suc x * n)
-    go true e = ap (λ m. capped (suc x * m)) (capped-small n (leb-true n cap e))
-    go false e =
-        let large = leb-false n cap e in
-        let is = capped-large n (omega arith) in
-        let a : cap ≤ suc x * cap = simp suc-mul (omega arith) in
-        let b : cap ≤ suc x * n = simp suc-mul (omega arith) in
-        ap (λ m. capped (suc x * m)) is ∙ capped-large (suc x * cap) a ∙ sym (capped-large (suc x * n) b)
 
 -- ---- sums behind each other
 
@@ -84,35 +36,35 @@ sum-same {a} {b} t i d =
     ap (λ n. record { ticks = n; idle = a .idle; bad = a .bad }) t ∙ ap (λ u. record { ticks = b .ticks; idle = u; bad = a .bad }) i
     ∙ ap (λ u. record { ticks = b .ticks; idle = b .idle; bad = u }) d
 
-pub joined-assoc : (a b c : Sum) → joined (joined a b) c ≡ joined a (joined b c)
+joined-assoc : (a b c : Sum) → joined (joined a b) c ≡ joined a (joined b c)
 unfolding joined
 joined-assoc a b c =
-    let one = capped-left (a .ticks + b .ticks) (c .ticks) in
-    let two = capped-right (a .ticks) (b .ticks + c .ticks) in
+    let one = capped-left mostTicks (a .ticks + b .ticks) (c .ticks) in
+    let two = capped-right mostTicks (a .ticks) (b .ticks + c .ticks) in
     let three : a .ticks + b .ticks + c .ticks ≡ a .ticks + (b .ticks + c .ticks) = omega arith in
     sum-same (one ∙ ap capped three ∙ sym two) (or-assoc (a .idle) (b .idle) (c .idle)) (or-assoc (a .bad) (b .bad) (c .bad))
 
-pub joined-none : (a : Sum) → a .ticks ≤ cap → joined a noSum ≡ a
+joined-none : (a : Sum) → a .ticks ≤ moreTicks → joined a noSum ≡ a
 unfolding joined
 joined-none a le =
     let z : a .ticks + 0 ≡ a .ticks = omega arith in
-    sum-same (ap capped z ∙ capped-small (a .ticks) le) (or-false (a .idle)) (or-false (a .bad))
+    sum-same (ap capped z ∙ capped-small mostTicks (a .ticks) le) (or-false (a .idle)) (or-false (a .bad))
 
-pub none-joined : (a : Sum) → a .ticks ≤ cap → joined noSum a ≡ a
+none-joined : (a : Sum) → a .ticks ≤ moreTicks → joined noSum a ≡ a
 unfolding joined
-none-joined a le = let z : 0 + a .ticks ≡ a .ticks = omega arith in sum-same (ap capped z ∙ capped-small (a .ticks) le) refl refl
+none-joined a le = let z : 0 + a .ticks ≡ a .ticks = omega arith in sum-same (ap capped z ∙ capped-small mostTicks (a .ticks) le) refl refl
 
-pub joined-le : (a b : Sum) → joined a b .ticks ≤ cap
+joined-le : (a b : Sum) → joined a b .ticks ≤ moreTicks
 unfolding joined
-joined-le a b = capped-le (a .ticks + b .ticks)
+joined-le a b = capped-le mostTicks (a .ticks + b .ticks)
 
-pub repeated-le : (x : ℕ) (a : Sum) → repeated x a .ticks ≤ cap
+pub repeated-le : (x : ℕ) (a : Sum) → repeated x a .ticks ≤ moreTicks
 unfolding repeated
-repeated-le x a = capped-le (x * a .ticks)
+repeated-le x a = capped-le mostTicks (x * a .ticks)
 
-pub sum-le : (p : List ℕ) (i j : ℕ) → sumOf p i j .ticks ≤ cap
+pub sum-le : (p : List ℕ) (i j : ℕ) → sumOf p i j .ticks ≤ moreTicks
 unfolding sumOf
-sum-le p i j = capped-le (runTicks p i j)
+sum-le p i j = capped-le mostTicks (runTicks p i j)
 
 -- ---- some line of a run of lines
 
@@ -178,10 +130,10 @@ module _ (p : List ℕ) where
   unfolding idlesAt
   idle-at k e = ap (λ l. isIdle l (runTicks p (k + 1) (nextOf p k))) e
 
-  pub sum-none : (i j : ℕ) → j ≤ i → sumOf p i j ≡ noSum
+  sum-none : (i j : ℕ) → j ≤ i → sumOf p i j ≡ noSum
   unfolding sumOf
   sum-none i j le =
-      sum-same (ap capped (run-none p i j le) ∙ capped-small 0 (omega arith)) (in-none (idlesAt p) i j le) (in-none (λ k. isBad (lineAt p k)) i j le)
+      sum-same (ap capped (run-none p i j le) ∙ capped-small mostTicks 0 (omega arith)) (in-none (idlesAt p) i j le) (in-none (λ k. isBad (lineAt p k)) i j le)
 
   module _ (i j : ℕ) (lt : i < j) (le : j ≤ 200) where
     -- by the ticks of the first line and what it is
@@ -190,12 +142,12 @@ module _ (p : List ℕ) where
         → isBad l ≡ plainSum l .bad → sumOf p i j ≡ joined (plainSum l) (sumOf p (i + 1) j)
     unfolding sumOf joined
     plain {l} is ticks idle bad =
-        sum-same (ap capped ticks ∙ sym (capped-right (plainSum l .ticks) (runTicks p (i + 1) j)))
+        sum-same (ap capped ticks ∙ sym (capped-right mostTicks (plainSum l .ticks) (runTicks p (i + 1) j)))
         (in-first (idlesAt p) i j lt ∙ ap (λ t. t || someIn (idlesAt p) (i + 1) j) (idle-at i is ∙ idle))
         (in-first (λ k. isBad (lineAt p k)) i j lt ∙ ap (λ t. t || someIn (λ k. isBad (lineAt p k)) (i + 1) j) (ap isBad is ∙ bad))
 
     -- a line that begins no loop
-    pub sum-plain : (l : Line) → lineAt p i ≡ l → ((c x : ℕ) → l ≡ For c x → ⊥) → sumOf p i j ≡ joined (plainSum l) (sumOf p (i + 1) j)
+    sum-plain : (l : Line) → lineAt p i ≡ l → ((c x : ℕ) → l ≡ For c x → ⊥) → sumOf p i j ≡ joined (plainSum l) (sumOf p (i + 1) j)
     sum-plain (State o t) is not-for = plain is (run-state p i j lt le is) refl refl
     sum-plain (For c x) is not-for = absurd (not-for c x refl)
     sum-plain (Next c) is not-for = plain is (run-next p i j lt le is ∙ sym (zero-add _)) refl refl
@@ -218,9 +170,9 @@ module _ (p : List ℕ) where
       loop-idle : idlesAt p i ≡ (ltb 0 x && eqb (capped body) 0)
       unfolding body
       loop-idle =
-          idle-at i is ∙ ap (λ m. ltb 0 x && eqb (runTicks p (i + 1) m) 0) here ∙ ap (λ u. ltb 0 x && u) (sym (capped-zero (runTicks p (i + 1) n)))
+          idle-at i is ∙ ap (λ m. ltb 0 x && eqb (runTicks p (i + 1) m) 0) here ∙ ap (λ u. ltb 0 x && u) (sym (capped-zero mostTicks (runTicks p (i + 1) n)))
 
-      pub sum-loop : sumOf p i j ≡ joined (repeated x (sumOf p (i + 1) n)) (sumOf p (n + 1) j)
+      sum-loop : sumOf p i j ≡ joined (repeated x (sumOf p (i + 1) n)) (sumOf p (n + 1) j)
       unfolding sumOf joined repeated body
       sum-loop =
           let one : runTicks p i j
@@ -228,15 +180,15 @@ module _ (p : List ℕ) where
           let two : capped (x * body + runTicks p (n + 1) j)
           ≡ capped (capped (x * capped body) + capped (runTicks p (n + 1) j)) =
           sym
-          (ap (λ m. capped (m + capped (runTicks p (n + 1) j))) (capped-times x body)
-          ∙ capped-left (x * body) (capped (runTicks p (n + 1) j)) ∙ capped-right (x * body) (runTicks p (n + 1) j)) in
+          (ap (λ m. capped (m + capped (runTicks p (n + 1) j))) (capped-times mostTicks x body)
+          ∙ capped-left mostTicks (x * body) (capped (runTicks p (n + 1) j)) ∙ capped-right mostTicks (x * body) (runTicks p (n + 1) j)) in
           sum-same (ap capped one ∙ two) (in-loop (idlesAt p) (ltb 0 x && eqb (capped body) 0) loop-idle (idle-at n ends))
           (in-loop (λ k. isBad (lineAt p k)) false (ap isBad is) (ap isBad ends)
           ∙ ap (λ u. u || someIn (λ k. isBad (lineAt p k)) (n + 1) j) (or-false (someIn (λ k. isBad (lineAt p k)) (i + 1) n)))
 
 -- ---- what the code makes of a sum
 
-module _ (s : Sum) (small : s .ticks ≤ cap) where
+module _ (s : Sum) (small : s .ticks ≤ moreTicks) where
   pub with-state : (o t n : ℕ) (l : Line) → l ≡ State o t → n ≡ capped (s .ticks + t)
       → record { ticks = n; idle = s .idle; bad = s .bad } ≡ joined s (plainSum l)
   unfolding joined
@@ -246,7 +198,7 @@ module _ (s : Sum) (small : s .ticks ≤ cap) where
   unfolding joined
   with-bad l is =
       let z : s .ticks ≡ s .ticks + 0 = omega arith in
-      rw is (sum-same (sym (capped-small (s .ticks) small) ∙ ap capped z) (sym (or-false (s .idle))) (sym (or-true (s .bad))))
+      rw is (sum-same (sym (capped-small mostTicks (s .ticks) small) ∙ ap capped z) (sym (or-false (s .idle))) (sym (or-true (s .bad))))
 
   pub with-other : (l : Line) → plainSum l ≡ noSum → s ≡ joined s (plainSum l)
   with-other l is = sym (ap (joined s) is ∙ joined-none s small)
@@ -254,14 +206,14 @@ module _ (s : Sum) (small : s .ticks ≤ cap) where
   -- a loop of none, one that idles, and any other
   pub none-repeated : (x : ℕ) → x ≡ 0 → record { ticks = 0; idle = s .idle; bad = s .bad } ≡ repeated x s
   unfolding repeated
-  none-repeated x is = rw is (sum-same (sym (ap capped (zero-mul (s .ticks)) ∙ capped-small 0 (omega arith))) (sym (or-false (s .idle))) refl)
+  none-repeated x is = rw is (sum-same (sym (ap capped (zero-mul (s .ticks)) ∙ capped-small mostTicks 0 (omega arith))) (sym (or-false (s .idle))) refl)
 
   pub idle-repeated : (x : ℕ) → x ≢ 0 → s .ticks ≡ 0 → record { ticks = s .ticks; idle = true; bad = s .bad } ≡ repeated x s
   unfolding repeated
   idle-repeated x some none =
       let above = lt-ltb 0 x (omega arith) in
       let z : x * s .ticks ≡ 0 = ap (λ n. x * n) none ∙ mul-zero x in
-      sum-same (none ∙ sym (ap capped z ∙ capped-small 0 (omega arith)))
+      sum-same (none ∙ sym (ap capped z ∙ capped-small mostTicks 0 (omega arith)))
       (sym (ap₂ (λ a b. s .idle || (a && b)) above (eq-eqb (s .ticks) 0 none) ∙ or-true (s .idle))) refl
 
   pub some-repeated : (x n : ℕ) → x ≢ 0 → s .ticks ≢ 0 → n ≡ capped (s .ticks * x) → record { ticks = n; idle = s .idle; bad = s .bad } ≡ repeated x s
@@ -272,7 +224,7 @@ module _ (s : Sum) (small : s .ticks ≤ cap) where
       (sym (ap₂ (λ a b. s .idle || (a && b)) above (ne-eqb (s .ticks) 0 takes) ∙ or-false (s .idle))) refl
 
   pub product-fits : (x : ℕ) → x < 65536 → s .ticks * x < 18446744073709551616
-  product-fits x lt = let le = mul-le-mul {n₁ = s .ticks} {m₁ = x} {n₂ = cap} {m₂ = 65536} small (omega arith) in omega (arith, le)
+  product-fits x lt = let le = mul-le-mul {n₁ = s .ticks} {m₁ = x} {n₂ = moreTicks} {m₂ = 65536} small (omega arith) in omega (arith, le)
 
 -- ---- the loop that sums
 
@@ -280,7 +232,7 @@ module _ (s : Sum) (small : s .ticks ≤ cap) where
 pub record Summed (p : List ℕ) (at end i : ℕ) (s : Sum) : Type 0 where
   pub from : at ≤ i
   pub nests : Nests p i end
-  pub small : s .ticks ≤ cap
+  pub small : s .ticks ≤ moreTicks
   pub is : sumOf p at end ≡ joined s (sumOf p i end)
 
 pub sum-begins : (p : List ℕ) (at end : ℕ) → Nests p at end → Summed p at end at noSum
@@ -290,7 +242,7 @@ module _ (p : List ℕ) (i j : ℕ) (n : Nests p i j) where
   rest-nests : (m : ℕ) → i ≤ m → Nests p m j
   rest-nests m le = record { closed = λ k from to. n .closed k (omega arith) to; nested = λ k x from to. n .nested k x (omega arith) to }
 
-  pub body-nests : i < j → Nests p (i + 1) (nextOf p i)
+  body-nests : i < j → Nests p (i + 1) (nextOf p i)
   body-nests lt =
       let end = n .closed i (omega arith) lt in
       record {

@@ -16,7 +16,7 @@ use Rattle.duration.proofs.Pairs.{next-after, of-within}
 
 module _ (p : List ℕ) where
   -- a run of lines goes on to a later line
-  pub past-later : (k : ℕ) → k < 200 → k < past p k
+  past-later : (k : ℕ) → k < 200 → k < past p k
   unfolding past nextOf
   past-later k lt = go (lineAt p k)
     where

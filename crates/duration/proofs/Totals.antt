@@ -11,42 +11,22 @@ use Rattle.formats.specs.Checks.{refused, _>>_, _orElse_}
 use Rattle.duration.specs.declared.Answer.{Answer}
 use Rattle.duration.specs.declared.Answer.the-variants.{Takes, Refused}
 use Rattle.duration.specs.Report.{report, answerOf}
-use Rattle.duration.specs.Total.{mostTotal, adds, grandTotal, toldTotal, cappedTotal}
-
--- the total of programs that come one behind the other, from a total on, as a program keeps it
-unfoldable pub kept : ℕ → List (List ℕ) → ℕ
-kept t [] = t
-kept t (p ∷ ps) = kept (cappedTotal (t + adds (answerOf (report p)))) ps
-
-capped-add : (a b : ℕ) → cappedTotal (cappedTotal a + b) ≡ cappedTotal (a + b)
-unfolding cappedTotal
-capped-add a b = omega arith
-
-capped-once : (a : ℕ) → a ≤ mostTotal + 1 → cappedTotal a ≡ a
-unfolding cappedTotal
-capped-once a le = omega arith
-
-capped-le : (a : ℕ) → cappedTotal a ≤ mostTotal + 1
-unfolding cappedTotal
-capped-le a = omega arith
+use Rattle.duration.specs.Total.{mostTotal, adds, grandTotal, toldTotal, cappedTotal, kept}
+use Rattle.duration.proofs.Capping.{capped-le, capped-small, capped-large, capped-left}
 
 kept-so : (t : ℕ) (ps : List (List ℕ)) → t ≤ mostTotal + 1 → kept t ps ≡ cappedTotal (t + grandTotal ps)
 unfolding kept grandTotal
-kept-so t [] le = let z : t + 0 ≡ t = omega arith in sym (ap cappedTotal z ∙ capped-once t le)
+kept-so t [] le = let z : t + 0 ≡ t = omega arith in sym (ap cappedTotal z ∙ capped-small mostTotal t le)
 kept-so t (p ∷ ps) le =
     let a = adds (answerOf (report p)) in
     let z : t + a + grandTotal ps ≡ t + (a + grandTotal ps) = omega arith in
-    kept-so (cappedTotal (t + a)) ps (capped-le (t + a)) ∙ capped-add (t + a) (grandTotal ps) ∙ ap cappedTotal z
+    kept-so (cappedTotal (t + a)) ps (capped-le mostTotal (t + a)) ∙ capped-left mostTotal (t + a) (grandTotal ps) ∙ ap cappedTotal z
 
 -- what is kept is the grand total, up to one more than is told,
 pub kept-total : (ps : List (List ℕ)) → kept 0 ps ≡ cappedTotal (grandTotal ps)
 kept-total ps = let z : 0 + grandTotal ps ≡ grandTotal ps = omega arith in kept-so 0 ps (omega arith) ∙ ap cappedTotal z
 
 -- and tells what the grand total tells
-over : (m : ℕ) → mostTotal < m → cappedTotal m ≡ mostTotal + 1
-unfolding cappedTotal
-over m lt = omega arith
-
 refused-over : (m : ℕ) → mostTotal < m → toldTotal m ≡ refused 43
 unfolding toldTotal _>>_ _orElse_
 refused-over m lt = rw (lt-leb m mostTotal lt)
@@ -55,10 +35,10 @@ told-same : (n : ℕ) → toldTotal (cappedTotal n) ≡ toldTotal n
 told-same n = go (leb n mostTotal) refl
   where
     go : (t : Bool) → leb n mostTotal ≡ t → toldTotal (cappedTotal n) ≡ toldTotal n
-    go true e = ap toldTotal (capped-once n (omega (arith, leb-true n mostTotal e)))
+    go true e = ap toldTotal (capped-small mostTotal n (omega (arith, leb-true n mostTotal e)))
     go false e =
         let lt = leb-false n mostTotal e in
-        ap toldTotal (over n lt) ∙ refused-over (mostTotal + 1) (omega arith) ∙ sym (refused-over n lt)
+        ap toldTotal (capped-large mostTotal n (omega arith)) ∙ refused-over (mostTotal + 1) (omega arith) ∙ sym (refused-over n lt)
 
 pub total-told : (ps : List (List ℕ)) → toldTotal (kept 0 ps) ≡ toldTotal (grandTotal ps)
 total-told ps = ap toldTotal (kept-total ps) ∙ told-same (grandTotal ps)
@@ -67,17 +47,17 @@ total-told ps = ap toldTotal (kept-total ps) ∙ told-same (grandTotal ps)
 
 module _ (t : ℕ) (a : Answer) where
   pub over-already : mostTotal < t → mostTotal + 1 ≡ cappedTotal (t + adds a)
-  over-already lt = sym (over (t + adds a) (omega arith))
+  over-already lt = sym (capped-large mostTotal (t + adds a) (omega arith))
 
   module _ (le : t ≤ mostTotal) where
     pub nothing-more : adds a ≡ 0 → t ≡ cappedTotal (t + adds a)
-    nothing-more z = let e : t + adds a ≡ t = omega arith in sym (ap cappedTotal e ∙ capped-once t (omega arith))
+    nothing-more z = let e : t + adds a ≡ t = omega arith in sym (ap cappedTotal e ∙ capped-small mostTotal t (omega arith))
 
     pub now-over : (n : ℕ) → a ≡ Takes n → mostTotal - t < n → mostTotal + 1 ≡ cappedTotal (t + adds a)
-    now-over n is lt = rw is (sym (over (t + n) (omega arith)))
+    now-over n is lt = rw is (sym (capped-large mostTotal (t + n) (omega arith)))
 
     pub still-told : (n : ℕ) → a ≡ Takes n → n ≤ mostTotal - t → t + n ≡ cappedTotal (t + adds a)
-    still-told n is up = rw is (sym (capped-once (t + n) (omega arith)))
+    still-told n is up = rw is (sym (capped-small mostTotal (t + n) (omega arith)))
 
 pub told-over : (n : ℕ) → mostTotal < n → Refused 43 ≡ answerOf (toldTotal n)
 told-over n lt = sym (ap answerOf (refused-over n lt))

@@ -18,7 +18,7 @@ use Rattle.running.specs.Running.{free, counter, atLine, withCounter, goesTo, i
 use Rattle.running.proofs.Steps.{next-back, next-last}
 use Rattle.duration.specs.Loops.{nextOf}
 use Rattle.duration.specs.Ticks.{runTicks}
-use Rattle.duration.proofs.Pairs.{counter-ranged, paired, first-later}
+use Rattle.duration.proofs.Pairs.{counter-ranged, counter-of, own-next}
 use Rattle.duration.proofs.Reaching.{at-once, and-then}
 use Rattle.duration.proofs.Arriving.{At, few-sum, few-fresh, fresh, Arrives, led, goes-to, Free, Passes}
 use Rattle.duration.proofs.Sound.{Sound, first}
@@ -56,10 +56,10 @@ module _ (p : List ℕ) (e : ℕ) (s : Sound p e) where
     pairing = first p e s before is
 
     -- a loop inside it that had its counter would have its Next
-    own-next : (j d y : ℕ) → k + 1 ≤ j → j < nx → lineAt p j ≡ For d y → d ≡ c → ⊥
-    own-next j d y from to at own =
-        let there : FirstFrom p c (j + 1) nx = first-later pairing (omega arith) (omega (arith, to)) in
-        let z : nextOf p j ≡ nx = paired p j (omega (arith, s .inProgram, within)) at (rw own there) in
+    not-own : (j d y : ℕ) → k + 1 ≤ j → j < nx → lineAt p j ≡ For d y → d ≡ c → ⊥
+    not-own j d y from to at same =
+        let z = own-next p k j c (counter-of p k is) (counter-of p j at ∙ same) (counter-ranged p k c x is .0) (omega arith)
+        (omega (arith, s .inProgram, within)) to in
         omega (arith, z, s .nests .nested k j (omega arith) before (omega arith) to)
 
     -- so the loops inside it have other counters
@@ -68,7 +68,7 @@ module _ (p : List ℕ) (e : ℕ) (s : Sound p e) where
     others m j d y from to at =
         let a = counter-ranged p k c x is in
         let b = counter-ranged p j d y at in
-        let other : d - 1 ≢ c - 1 = λ z. own-next j d y from to at (omega (arith, z, a .0, b .0)) in
+        let other : d - 1 ≢ c - 1 = λ z. not-own j d y from to at (omega (arith, z, a .0, b .0)) in
         getD-set-other cs (c - 1) (d - 1) (held m) free other ∙ frees j d y from to at
 
     in-list : c - 1 < length cs

@@ -6,18 +6,18 @@ use mathlib.Core.Path.{_≡_, refl, sym, ap, _∙_}
 use mathlib.Core.Logic.{_≢_}
 use mathlib.Core.Bool.{Bool, true, false, _&&_, _||_}
 use mathlib.Core.List.{List}
-use lib.ListN.{length, getD, set, replicate, length-set}
+use lib.ListN.{length, getD, set, length-set}
 use lib.Seq.{getD-set-same, getD-set-other}
 use lib.Dec.{leb, ltb, eqb}
 use borrow.Author.Tests.{ltb-true, lt-ltb, eqb-true, eqb-false, eq-eqb}
-use Rattle.formats.proofs.Checks.{both-true, either-true, or-true}
+use Rattle.formats.proofs.Checks.{both-true, either-true, or-true, by-both}
 use Rattle.lines.specs.declared.Line.{Line}
 use Rattle.lines.specs.declared.Line.the-variants.{State, For, Next, Bad}
 use Rattle.lines.specs.Program.{lineAt}
 use Rattle.duration.specs.Lines.{someBefore}
 use Rattle.duration.specs.Loops.{nextOf, counterAt, isInside}
 use Rattle.duration.specs.Walk.{opened, openAt, isAcross, isAcrossOne}
-use Rattle.duration.proofs.Lines.{by-both, some-line, line-some, last-or-before}
+use Rattle.duration.proofs.Lines.{replicated, some-line, line-some, last-or-before}
 use Rattle.duration.proofs.Pairs.{same-next, counter-ranged, counter-of, begins-so, next-by, counted, pairs, later-next, inside, is-inside}
 
 -- ---- one of four
@@ -35,17 +35,10 @@ unfolding isAcrossOne
 of-one i n os e h =
     either-true _ _ e (λ e. either-true _ _ e (λ e. either-true _ _ e (h 0 (omega arith)) (h 1 (omega arith))) (h 2 (omega arith))) (h 3 (omega arith))
 
-none-open : (d : ℕ) → _≡_ {A = ℕ} (getD (replicate 4 0) d 0) 0
-none-open zero = refl
-none-open (suc zero) = refl
-none-open (suc (suc zero)) = refl
-none-open (suc (suc (suc zero))) = refl
-none-open (suc (suc (suc (suc d)))) = refl
-
 module _ (p : List ℕ) where
   at-first : (d : ℕ) → getD (openAt p 0) d 0 ≡ 0
   unfolding openAt
-  at-first d = none-open d
+  at-first d = replicated 4 0 d
 
   open-length : (i : ℕ) → length (openAt p i) ≡ 4
   unfolding openAt
@@ -83,7 +76,7 @@ module _ (p : List ℕ) where
       go Bad e = refl
 
   -- The Next of a For stands open up to it,
-  pub stays-open : (k d : ℕ) → counterAt p k ≡ suc d → d < 4 → (i : ℕ) → k < i → i ≤ 200 → i ≤ nextOf p k → getD (openAt p i) d 0 ≡ nextOf p k
+  stays-open : (k d : ℕ) → counterAt p k ≡ suc d → d < 4 → (i : ℕ) → k < i → i ≤ 200 → i ≤ nextOf p k → getD (openAt p i) d 0 ≡ nextOf p k
   stays-open k d is lt zero after le to = absurd (omega arith)
   stays-open k d is lt (suc m) after le to =
       last-or-before k m after (λ z. ap (λ i. getD (openAt p (suc i)) d 0) (sym z) ∙ open-own k d is lt)
@@ -97,7 +90,7 @@ module _ (p : List ℕ) where
       go false e before there = open-other m d (eqb-false (counterAt p m) (suc d) e) ∙ there
 
   -- and what stands open is the Next of a For
-  pub was-opened : {X : Type 0} (i d : ℕ) → d < 4 → 0 < getD (openAt p i) d 0
+  was-opened : {X : Type 0} (i d : ℕ) → d < 4 → 0 < getD (openAt p i) d 0
       → ((k : ℕ) → k < i → counterAt p k ≡ suc d → nextOf p k ≡ getD (openAt p i) d 0 → X) → X
   was-opened zero d lt above h = absurd (omega (arith, at-first d, above))
   was-opened {X} (suc i) d lt above h = go (eqb (counterAt p i) (suc d)) refl (λ up g. was-opened i d lt up g)

@@ -1,6 +1,6 @@
 -- The report: how many ticks a program takes, or why that is not told.
 -- 02, item 6: "the exact number of unpaused ticks from a start at line 000 to event 011", "Refusals, first that applies".
-use Prim.Native.Nat.{ℕ}
+use Prim.Native.Nat.{ℕ, _+_, min}
 use mathlib.Core.Bool.{not}
 use mathlib.Core.List.{List}
 use lib.ListN.{length}
@@ -14,6 +14,10 @@ use Rattle.duration.specs.Ticks.{runTicks, idles, hasBad}
 -- 043: "more than 9,999,999,999 ticks"
 abbrev pub mostTicks : ℕ
 mostTicks = 9999999999
+
+-- A number as it is summed up to: one more than the most that is told stands for any number above it.
+unfoldable pub cappedAt : ℕ → ℕ → ℕ
+cappedAt most n = min n (most + 1)
 
 -- a program of 1,600 bytes whose first State with time 0 is line e, 200 where it has none; the refusals in their order
 unfoldable pub reportTo : List ℕ → ℕ → Res ℕ

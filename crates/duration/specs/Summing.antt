@@ -1,5 +1,5 @@
 -- How the code sums: ticks up to one more than are told, and whether an idle loop or a Bad line was met.
-use Prim.Native.Nat.{ℕ, _+_, _*_, _≤_, _<_, min}
+use Prim.Native.Nat.{ℕ, _+_, _*_, _≤_, _<_}
 use mathlib.Core.Bool.{Bool, false, true, _&&_, _||_}
 use mathlib.Core.List.{List}
 use lib.Dec.{ltb, leb, eqb}
@@ -11,14 +11,14 @@ use Rattle.duration.specs.declared.sums.Sum.{Sum}
 use Rattle.duration.specs.Lines.{someBefore}
 use Rattle.duration.specs.Loops.{nextOf}
 use Rattle.duration.specs.Ticks.{runTicks, idlesAt}
-use Rattle.duration.specs.Report.{mostTicks}
+use Rattle.duration.specs.Report.{mostTicks, cappedAt}
 
--- one more than `mostTicks`, which stands for any number above it
+-- the most that is summed
 abbrev pub moreTicks : ℕ
 moreTicks = mostTicks + 1
 
-unfoldable pub capped : ℕ → ℕ
-capped n = min n moreTicks
+abbrev pub capped : ℕ → ℕ
+capped n = cappedAt mostTicks n
 
 abbrev pub noSum : Sum
 noSum = record { ticks = 0; idle = false; bad = false }

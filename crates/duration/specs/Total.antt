@@ -1,13 +1,13 @@
 -- The grand total of programs.
 -- 02, item 6: "prints each number or refusal, then the grand total, a line each; a refused program adds nothing", "043 more than 9,999,999,999
 -- ticks, or a grand total more than ten times that".
-use Prim.Native.Nat.{ℕ, _+_, _*_, min}
+use Prim.Native.Nat.{ℕ, _+_, _*_}
 use mathlib.Core.List.{List, [], _∷_}
 use lib.Dec.{leb}
 use Rattle.formats.specs.Checks.{Res, passed, _>>_, _orElse_}
 use Rattle.duration.specs.declared.Answer.{Answer}
 use Rattle.duration.specs.declared.Answer.the-variants.{Takes, Refused}
-use Rattle.duration.specs.Report.{mostTicks, report, answerOf}
+use Rattle.duration.specs.Report.{mostTicks, cappedAt, report, answerOf}
 
 -- "ten times that"
 abbrev pub mostTotal : ℕ
@@ -28,6 +28,11 @@ toldTotal n = do
   leb n mostTotal orElse 43
   passed n
 
--- one more than `mostTotal` stands for any number above it
-unfoldable pub cappedTotal : ℕ → ℕ
-cappedTotal n = min n (mostTotal + 1)
+-- how it is kept
+abbrev pub cappedTotal : ℕ → ℕ
+cappedTotal n = cappedAt mostTotal n
+
+-- the total of programs that come one behind the other, from a total t on, as it is kept
+unfoldable pub kept : ℕ → List (List ℕ) → ℕ
+kept t [] = t
+kept t (p ∷ ps) = kept (cappedTotal (t + adds (answerOf (report p)))) ps

@@ -1,4 +1,4 @@
--- How the code finds a tangle: line by line, with the Next of the last For of each counter. `Walks` proves that it is the rule's.
+-- How the code finds a tangle: line by line, with the Next of the last For of each counter. `Faults.tangled-is` proves that it is the rule's.
 use Prim.Native.Nat.{ℕ, zero, suc, _-_}
 use mathlib.Core.Path.{_≡_}
 use mathlib.Core.Bool.{Bool, false, _&&_, _||_, not}
@@ -11,7 +11,7 @@ use Rattle.lines.specs.Program.{lineAt}
 use Rattle.duration.specs.declared.nesting.Walk.{Walk}
 use Rattle.duration.specs.Loops.{nextOf, isTangled}
 
--- the Next of each counter's last For, with that of a For on line i, whose Next is line n
+-- the Next of each counter's last For, after one line more: line n is its Next, where that is a For
 abbrev pub opened : Line → ℕ → List ℕ → List ℕ
 opened (State outputs time) n os = os
 opened (For counter count) n os = set os (counter - 1) n

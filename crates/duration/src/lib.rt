@@ -56,7 +56,7 @@ pub fn report(p: &[u8]) -> Answer
 // ---- the grand total of programs one behind the other
 
 // The most ticks of a grand total that are told.
-pub const MOST_TOTAL: u64 = 99999999990;
+pub const MOST_TOTAL: u64 = 10 * MOST_TICKS;
 
 // The total so far with one program more: a refused one adds nothing. One more than is told stands for any number above it.
 pub fn total_with(total: u64, answer: Answer) -> u64

@@ -18,7 +18,7 @@ pub struct Sum {
 const MORE: u64 = crate::MOST_TICKS + 1;
 
 // No lines.
-pub fn none() -> Sum
+fn none() -> Sum
     ensures sum { λ r. ⌜ r ≡ noSum ⌝ }
 {
     Sum {

@@ -1,5 +1,7 @@
 // The program durations of 02: programs of 1,600 bytes on standard input, one behind the other; on standard output how many ticks each takes,
 // or why that is not told, and then the grand total, a line each. No more than one program is kept.
+// What is told of a program is in contracts, by specs/Telling.antt; which bytes were read, and which went out, is in none, since C's have none.
+ghost use Rattle.durations.specs.Telling.{PutsLine, Tells};
 use duration::Answer;
 use streams::Output;
 
@@ -14,7 +16,9 @@ struct Progress {
 }
 
 // An answer as a line: the number, or E and three digits.
-fn put_answer(output: Output, block: &mut [u8], answer: Answer) -> Output {
+fn put_answer(output: Output, block: &mut [u8], answer: Answer) -> Output
+    ensures line { λ r. ⌜ PutsLine output (now (block .entry)) answer r (now (block .exit)) ⌝ }
+{
     match answer {
         Answer::Takes(n) => {
             let number = output.put_number(block, n);
@@ -25,7 +29,9 @@ fn put_answer(output: Output, block: &mut [u8], answer: Answer) -> Output {
 }
 
 // The line of a program, or of a last piece that is none, and the total with it.
-fn told(output: Output, block: &mut [u8], total: u64, program: &[u8]) -> Progress {
+fn told(output: Output, block: &mut [u8], total: u64, program: &[u8]) -> Progress
+    ensures tells { λ r. ⌜ Tells output (now (block .entry)) total (now (program .entry)) r (now (block .exit)) ⌝ }
+{
     let answer = duration::report(program);
     let output = put_answer(output, block, answer);
     let total = duration::total_with(total, answer);

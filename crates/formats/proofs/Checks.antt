@@ -50,6 +50,10 @@ pub and-false : (a : Bool) → (a && false) ≡ false
 and-false true = refl
 and-false false = refl
 
+pub and-true : (a : Bool) → (a && true) ≡ a
+and-true true = refl
+and-true false = refl
+
 pub or-true : (a : Bool) → (a || true) ≡ true
 or-true true = refl
 or-true false = refl
@@ -67,6 +71,17 @@ and-swap false false e = refl
 pub neither : (a b : Bool) → (a || b) ≡ false → (a ≡ false) × (b ≡ false)
 neither true b e = absurd (false≢true (sym e))
 neither false b e = (refl, e)
+
+-- what is not true is false
+pub not-so : (a : Bool) → (a ≡ true → ⊥) → a ≡ false
+not-so true f = absurd (f refl)
+not-so false f = refl
+
+-- two tests that say the same
+pub by-both : (a b : Bool) → (a ≡ true → b ≡ true) → (b ≡ true → a ≡ true) → a ≡ b
+by-both true b f g = sym (f refl)
+by-both false true f g = g refl
+by-both false false f g = refl
 
 -- nothing is not something
 pub not-some : {A : Type 0} {k : A} → none ≡ some k → ⊥

@@ -1,16 +1,16 @@
 -- `duration::sums::capped` meets its contract, branch by branch.
 -- Assumes nothing.
-use Rattle.duration.specs.Summing.{capped}
+use Rattle.duration.specs.Report.{cappedAt}
 use borrow.Author.Needs.{needs}
 use Rattle.duration.proofs.sums.capped.Statement.{statement}
 use Rattle.duration.proofs.sums.capped.Tie as tie
 
 returns : tie.Need-returns
-unfolding capped
+unfolding cappedAt
 returns c = search needs
 
 returns-2 : tie.Need-returns-2
-unfolding capped
+unfolding cappedAt
 returns-2 c = search needs
 
 pub capped-spec : {M : Type 1} → statement M
