@@ -174,10 +174,10 @@ def constant_memory(command):
             talk.send(programs)
             equal(talk.lines(100), text, "the answers to 100 programs")
             if n == 0:
+                time.sleep(1)  # what the command starts beside the program has started then
                 first = peaks(talk.process.pid)
         last = peaks(talk.process.pid)
         equal(talk.end(), b"E043\n", "the total")
-    # a helper of the command that started meanwhile has no peak before
     both = first.keys() & last.keys()
     if last and not both:
         raise AssertionError("no process was there from 100 programs to 20,000")
