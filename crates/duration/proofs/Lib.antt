@@ -16,6 +16,7 @@ pub mod Faults
 pub mod Walking
 pub mod FirstEnd
 pub mod Judging
+pub mod Order
 pub mod Answers
 pub mod Reasons
 pub mod Taking

@@ -1,20 +1,20 @@
 -- The number that the report tells is the running rule's.
 -- Assumes nothing.
-use Prim.Native.Nat.{ℕ, zero, suc, _+_, _≤_}
+use Prim.Native.Nat.{ℕ, zero, suc, _+_}
 use native.Mathlib.Omega.{arith}
 use mathlib.Core.Path.{_≡_, refl, sym, _∙_}
-use mathlib.Core.Bool.{Bool, true, false, not, true≢false}
+use mathlib.Core.Bool.{Bool, true, false, true≢false}
 use mathlib.Core.List.{List}
-use lib.ListN.{length}
-use lib.Dec.{ltb, leb, eqb}
-use borrow.Author.Tests.{eqb-true, ltb-true, ltb-false, leb-true, not-true}
-use Rattle.formats.specs.Checks.{passed, _orElse_}
-use Rattle.formats.proofs.Checks.{both-passed, rule-holds, passed-same}
+use lib.Dec.{ltb}
+use borrow.Author.Tests.{ltb-true, ltb-false, not-true}
+use Rattle.formats.specs.Checks.{passed}
+use Rattle.formats.proofs.Checks.{not-passed, passed-same}
+use Rattle.duration.proofs.Order.{Told, refuses, passes, told}
 use Rattle.running.specs.declared.Ran.{Ran}
 use Rattle.running.specs.Running.{tick, ticks}
 use Rattle.duration.specs.Loops.{endLine, isTangled, endsInside}
 use Rattle.duration.specs.Ticks.{runTicks, idles, hasBad}
-use Rattle.duration.specs.Report.{mostTicks, reportTo, report}
+use Rattle.duration.specs.Report.{report}
 use Rattle.duration.specs.ByTheRule.{after, EndsAfter, TakesTicks}
 use Rattle.duration.specs.Reasons.{End}
 use Rattle.duration.proofs.Reaching.{after-add}
@@ -30,42 +30,19 @@ module _ (p : List ℕ) where
   pub takes-so : End p e → isTangled p e ≡ false → endsInside p e ≡ false → idles p e ≡ false → hasBad p e ≡ false → TakesTicks p (runTicks p 0 e)
   takes-so end plain outside moves good outputs = sound-ends p e (sound p e end plain outside moves good) (end .outputs) (end .mark) outputs
 
-  -- What holds of a program that is not refused.
-  pub record Passed (n : ℕ) : Type 0 where
-    pub whole : length p ≡ 1600
-    pub end : End p e
-    pub plain : isTangled p e ≡ false
-    pub outside : endsInside p e ≡ false
-    pub moves : idles p e ≡ false
-    pub good : hasBad p e ≡ false
-    pub few : runTicks p 0 e ≤ mostTicks
-    pub is : n ≡ runTicks p 0 e
-
-  pub passes-all : (n : ℕ) → report p ≡ passed n → Passed n
-  unfolding report reportTo
-  passes-all n is =
-      let a = both-passed (eqb (length p) 1600 orElse 30) (reportTo p e) is in
-      let b = both-passed (ltb e 200 orElse 42) _ (a .1) in
-      let c = both-passed (not (isTangled p e) orElse 40) _ (b .1) in
-      let d = both-passed (not (endsInside p e) orElse 41) _ (c .1) in
-      let f = both-passed (not (idles p e) orElse 44) _ (d .1) in
-      let g = both-passed (not (hasBad p e) orElse 14) _ (f .1) in
-      let h = both-passed (leb (runTicks p 0 e) mostTicks orElse 43) _ (g .1) in
-      record {
-        whole = eqb-true (length p) 1600 (rule-holds _ 30 (a .0 .1));
-        end = end-is p (ltb-true e 200 (rule-holds _ 42 (b .0 .1)));
-        plain = not-true _ (rule-holds _ 40 (c .0 .1));
-        outside = not-true _ (rule-holds _ 41 (d .0 .1));
-        moves = not-true _ (rule-holds _ 44 (f .0 .1));
-        good = not-true _ (rule-holds _ 14 (g .0 .1));
-        few = leb-true _ _ (rule-holds _ 43 (h .0 .1));
-        is = sym (passed-same (h .1));
-      }
-
   -- A program that is not refused takes the ticks that are told: from a start at line 000 it runs until exactly that tick, and there it ends
   -- with event 011.
   pub takes : (n : ℕ) → report p ≡ passed n → TakesTicks p n
-  takes n is = let q = passes-all n is in rw (q .is) (takes-so (q .end) (q .plain) (q .outside) (q .moves) (q .good))
+  takes n is = go (told p e refl)
+    where
+      go : Told p e (report p) → TakesTicks p n
+      go (refuses i _ _ _ fails) = absurd (not-passed (sym fails ∙ is))
+      go (passes all so) =
+          let number : n ≡ runTicks p 0 e = passed-same (sym is ∙ so) in
+          let end = end-is p (ltb-true e 200 (all 1 (omega arith))) in
+          rw number
+          (takes-so end (not-true _ (all 2 (omega arith))) (not-true _ (all 3 (omega arith))) (not-true _ (all 4 (omega arith)))
+          (not-true _ (all 5 (omega arith))))
 
 -- What is left after so many ticks is what demand 3's rule leaves.
 pub after-ticks : (p : List ℕ) (n : ℕ) (x : Ran) → after p n x .run ≡ ticks p n (x .run)
