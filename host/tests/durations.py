@@ -16,7 +16,7 @@ import sys
 
 from durations_cases import CASES, SINGLE, program, stored
 from durations_streams import STREAMS, stream
-from loglist import TOP, of_program, shown
+from programs import TOP, of_program, shown
 
 
 def all_in_one():

@@ -15,7 +15,7 @@ import threading
 import time
 
 from durations_cases import FIVE, LONGEST, ONE, REFUSED
-from loglist import equal
+from programs import equal
 
 SECONDS = 300
 # The most that the peak may grow, in kB: nothing but what a page more or less makes. The proved program is one for x86-64; on another

@@ -17,7 +17,7 @@ import subprocess
 import sys
 import time
 
-TOP = os.path.dirname(os.path.dirname(os.path.dirname(os.path.abspath(__file__))))
+from programs import TOP, equal, of_program, shown
 
 
 # ---- records
@@ -204,24 +204,11 @@ CASES = PLAIN + CAUSES + KINDS + GAPS + TICKS + WORDS + MARKS + LENGTHS + FULL +
 
 # ---- running a case
 
-def of_program(program):
-    """A function from a log to what the program writes; what is no plain end is told in its place."""
-    def text(log):
-        done = subprocess.run([program], input=log, capture_output=True, check=False, timeout=60)
-        plain = done.returncode == 0 and not done.stderr
-        return done.stdout if plain else b"status %d, %r, %r" % (done.returncode, done.stdout[:60], done.stderr[:200])
-    return text
-
-
 def of_model():
     sys.path.insert(0, os.path.join(TOP, "model"))
     sys.dont_write_bytecode = True
     import loglist  # found in model/ first
     return loglist.listing
-
-
-def shown(text):
-    return repr(text) if len(text) <= 120 else f"{len(text)} bytes, {text[:40]!r} to {text[-40:]!r}"
 
 
 def run(reader, names):
@@ -242,11 +229,6 @@ def run(reader, names):
 
 
 # ---- input and output as streams: each case is given the words of a command
-
-def equal(got, want, what):
-    if got != want:
-        raise AssertionError(f"{what}: {got!r}, not {want!r}")
-
 
 def works(command):
     """A log is listed: what fails in the cases below fails for want of input or output alone."""
