@@ -5,8 +5,8 @@ host=$(CDPATH='' cd -- "$(dirname -- "${BASH_SOURCE[0]}")" && pwd)
 top=$(dirname "$host")
 out=$top/target/host
 archive=$top/target/staticlib/libnizhalepu.a
-damages=34 # the errors that independent/ can be built with
-duration_damages=33 # from this one on they are in the durations
+damages=37 # the errors that independent/ can be built with
+duration_damages=" 33 34 " # those of them that are in the durations
 
 fail() {
     echo "host/$(basename "$0"): $*" >&2

@@ -129,10 +129,10 @@ static void power_on(int fill) {
 
 static struct nizhalepu_record want;
 
-/* The record of 01's power-on. A last address of 000 is kept as 1. */
+/* The record of 01's power-on. The last addresses are before 000, and the address after that is kept (02, item 7). */
 static void want_power_on(void) {
     want = (struct nizhalepu_record){0};
-    want.wire.nextread = want.wire.nextwrite = 1;
+    want.wire.nextread = want.wire.nextwrite = 0;
     want.panel.single[0] = 0x53;
     want.panel.event = 12;
     want.panel.unread = true;

@@ -109,8 +109,8 @@ struct nizhalepu_wire {
     uint8_t chars[32];  /* the characters collected since the last 13, in capitals */
     size_t len;
     bool overlong;      /* a 33rd came */
-    uint8_t nextread;   /* the last address read, plus one */
-    uint8_t nextwrite;  /* the last address written, plus one */
+    uint8_t nextread;   /* the address after the last one read, which I means: 0 after power-on, 217 after 216 */
+    uint8_t nextwrite;  /* the address after the last one written, likewise */
 };
 
 struct nizhalepu_panel {

@@ -9,8 +9,8 @@
 #include "box.h"
 
 /*
- * DAMAGE 0 is the box, the reader of its log and the reading of durations; 1 to 10 and 18 to 32 give the box, 11 to 17 the reader, 33
- * and 34 the durations one known error each, to see that a comparison finds it.
+ * DAMAGE 0 is the box, the reader of its log and the reading of durations; 1 to 10, 18 to 32 and 35 to 37 give the box, 11 to 17 the
+ * reader, 33 and 34 the durations one known error each, to see that a comparison finds it.
  */
 #ifndef DAMAGE
 #define DAMAGE 0
@@ -71,6 +71,8 @@ enum { CAUSE_SINGLE = 254, CAUSE_WRITE = 255 }; /* other causes are line numbers
 
 enum { STOPPED, PAUSED, RUNNING }; /* Stop, Pause, Auto */
 
+enum { BEFORE_000 = -1 }; /* a last address at power-on (02, item 7) */
+
 struct box {
     uint32_t outputs;             /* output n is bit n-1 */
     uint32_t ticks;
@@ -87,8 +89,8 @@ struct box {
     bool unread;
     uint8_t parameter;
     uint8_t special;
-    uint8_t last_read;            /* last addresses, 216 at most */
-    uint8_t last_write;
+    int16_t last_read;            /* last addresses, BEFORE_000 or one of 0-216 */
+    int16_t last_write;
     uint8_t single[LINE_BYTES];   /* line 200: an end mark or what an accepted write left, so never Bad */
     bool overlong;
     uint8_t collected;

@@ -253,7 +253,23 @@ static bool may_be_written(unsigned address)
     return address <= SINGLE || (address >= V_OUTPUTS_HIGH && address <= V_OUTPUTS_LOW) || address == V_PARAMETER || address == V_SPECIAL;
 }
 
-/* Checks 1 to 3. I past 216 and D below 000 (here the wrap of an unsigned) are outside 000-216: E004. */
+/* I is the address after this direction's last one, D the address before it; past 216 or below 000 it is none. */
+static unsigned step_from(int last, uint8_t letter)
+{
+    const int address = letter == 'I' ? last + 1 : last - 1;
+
+#if DAMAGE == 35
+    if (address > V_COUNTER_4)
+        return 0;
+#endif
+#if DAMAGE == 37
+    if (last == BEFORE_000)
+        return 0;
+#endif
+    return address < 0 || address > V_COUNTER_4 ? NO_NUMBER : (unsigned)address;
+}
+
+/* Checks 1 to 3. */
 static unsigned take_apart(const struct box *box, struct command *command)
 {
     const uint8_t *text = box->command;
@@ -266,13 +282,10 @@ static unsigned take_apart(const struct box *box, struct command *command)
     if (box->overlong || text[0] != 'C' || (text[1] != 'R' && text[1] != 'W') || box->collected < head)
         return E_FORM;
     command->write = text[1] == 'W';
-    command->address = command->write ? box->last_write : box->last_read;
     if (head == 5)
         command->address = decimal(text + 2, 3);
-    else if (text[2] == 'I')
-        command->address++;
     else
-        command->address--;
+        command->address = step_from(command->write ? box->last_write : box->last_read, text[2]);
     if (command->address > V_COUNTER_4 || (command->write && !may_be_written(command->address)))
         return E_ADDRESS;
     command->data = text + head;
@@ -298,17 +311,17 @@ static uint8_t *answer(struct box *box, const struct lent *lent, uint8_t *reply,
 
 #if DAMAGE == 5
     if (error == 0)
-        *(command.write ? &box->last_write : &box->last_read) = (uint8_t)command.address;
+        *(command.write ? &box->last_write : &box->last_read) = (int16_t)command.address;
 #endif
     if (error == 0 && !command.write) {
         error = cannot_read(&command, lent->program);
         if (error == 0) {
-            box->last_read = (uint8_t)command.address;
+            box->last_read = (int16_t)command.address;
             return put_variable(box, command.address, lent->program, reply);
         }
 #if DAMAGE == 29
         if (error == E_BAD_LINE)
-            box->last_read = (uint8_t)command.address;
+            box->last_read = (int16_t)command.address;
 #endif
     } else if (error == 0) {
         error = write_locked(box, command.address) ? E_LOCKED : write_variable(box, &command, lent, lines);
@@ -317,7 +330,7 @@ static uint8_t *answer(struct box *box, const struct lent *lent, uint8_t *reply,
         *reply = 'E';
         return put_decimal(reply + 1, error, 3);
     }
-    box->last_write = (uint8_t)command.address;
+    box->last_write = (int16_t)command.address;
     reply[0] = 'O';
     reply[1] = 'K';
     return reply + 2;

@@ -19,14 +19,14 @@ def unwritten(*lines, at=0):
 
 @scenario
 def power_on():
-    # "13 alone, E001"; "CRI after power-on reads address 001": that line is Bad, and E024 leaves the last read address at 000, as D shows. The
-    # last written address is 000 as well: a write by I goes to 001, and the same CRI reads it.
-    say("^CR^CRI^CRD^CWIN1^CRI^CR001^", "E001 E001 E024 E004 OK N1 N1")
+    # "13 alone, E001"; "The worked point that reads 001 now reads 000": that line is Bad, and E024 leaves the last read address before 000, as D
+    # shows. The last written address is before 000 as well: a write by I goes to 000, and the same CRI reads it.
+    say("^CR^CRI^CRD^CWDN1^CWI^CWIN1^CRI^CR000^CRD^CRI^", "E001 E001 E024 E004 E004 E002 OK N1 N1 E004 E024")
     # "first read of 201 is 80, of 212 is 012, then 201 is 00".
     say("CR210^CR201^CR212^CR201^CR212^", "000 80 012 00 000")
     # "Load and save copy the bytes unaltered", and power-on loads: zeros stay zeros. 200 is an end mark.
-    say("CR000^CR002^CR199^CR200^", "E024 E024 E024 " + END)
-    say("CW210007^CR001^CW210008^CW210007^CR001^", "OK E024 OK OK E024")
+    say("CR001^CR002^CR199^CR200^", "E024 E024 E024 " + END)
+    say("CW210007^CR000^CW210008^CW210007^CR000^", "OK E024 OK OK E024")
     say("CR203^CR204^CR205^CR206^CR209^CR211^CR213^CR216^", "00 00 00 00 000 000 0000 0000")
 
 

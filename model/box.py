@@ -78,8 +78,8 @@ class Box:
         self.state, self.line, self.outputs, self.ticks_left = STOPPED, 0, 0, 0
         self.counters, self.for_lines = [0] * 4, [0] * 4
         self.event, self.unread, self.parameter, self.special = 12, True, 0, 0
-        # The wire: collection starts empty; read and write keep separate last addresses, both 000.
-        self.kept, self.overlong, self.last = "", False, {"R": 0, "W": 0}
+        # The wire: collection starts empty; read and write keep separate last addresses, both before 000 (02, item 7).
+        self.kept, self.overlong, self.last = "", False, {"R": -1, "W": -1}
 
     def feed(self, byte):
         """One byte of the program's input; the reply, with its 13, or nothing."""

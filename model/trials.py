@@ -1,12 +1,14 @@
 """Writes the input of the program `trials` and its expected output: trials.py INPUT OUTPUT.
 
 Here are the scenarios of the log, the program area, the saved copy and the lines run; those of the
-refusals are in call_trials.py, those of Bad lines in bad_trials.py.
+refusals are in call_trials.py, those of I and D from power-on on in step_trials.py, those of Bad lines in
+bad_trials.py.
 """
 
 import sys
 
 import call_trials  # its scenarios come first
+import step_trials
 import bad_trials
 from trial_script import (BLINK, END, GUARD, LOG, OUT, PROGRAM, SAVED, alter, empty, fresh, lend, on, press,
                           printed, program, say, scenario, scenarios, sent, stands, tick)

@@ -152,6 +152,20 @@ def write_steps():
 
 
 @scenario
+def download():
+    # "Every download script here writes 000 by address and then increments": to 200, behind which nothing is written; and back by reads.
+    known()
+    lines = [line_for(address) for address in range(201)]
+    say("CW000%s^" % lines[0] + "".join("CWI%s^" % line for line in lines[1:]), "OK " * 201)
+    say("CWI00^CWIN1^CWD%s^CWI%s^CWI00^" % (lines[199], lines[200]), "E004 E004 OK OK E004")
+    say("CR000^" + "CRI^" * 200, " ".join(lines))
+    say("CRI^" * 18, "00 00 00 00 00 00 00 000 000 003 000 000 0000 0000 0000 0000 E004 E004")
+    say("CRD^" * 15, "0000 0000 0000 000 000 003 000 000 00 00 00 00 00 00 00")
+    say("CRD^" * 203, " ".join(lines[::-1]) + " E004 E004")
+    say("CRI^", lines[1])
+
+
+@scenario
 def formats():
     # Check 6: formats, d above 255, reserved digits not 00, loop counter not 1-4; and lengths of check 5.
     known()

@@ -202,6 +202,18 @@ void say_read(struct maker *maker)
     say(maker, UNDAMAGED, "CR%03u", addresses[chance_below(&maker->chance, sizeof addresses)]);
 }
 
+/* Just after a power-on they show what the last addresses then are. */
+void say_steps(struct maker *maker)
+{
+    struct chance *chance = &maker->chance;
+    for (unsigned n = chance_between(chance, 1, 5); n > 0; n--) {
+        char data[LINE_TEXT] = "";
+        bool write = chance_one_in(chance, 2);
+        if (write) line_data(maker, data);
+        say(maker, SELDOM, "C%c%c%s", write ? 'W' : 'R', chance_one_in(chance, 3) ? 'D' : 'I', data);
+    }
+}
+
 /* A walk of reads does not pass a Bad line, and that of writes leaves none. */
 void say_walk(struct maker *maker)
 {

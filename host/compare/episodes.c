@@ -59,6 +59,16 @@ static void fill_areas(struct maker *maker)
     if (chance_one_in(chance, 2)) alter_whole(maker, REPLY, NOISE);
 }
 
+/* A power-on, with one that is refused before it or not. The steps behind it may be the first commands. */
+static void power(struct maker *maker, bool refused)
+{
+    if (refused)
+        make_refused_power_on(maker);
+    else
+        make_power_on(maker);
+    if (chance_one_in(&maker->chance, 2)) say_steps(maker);
+}
+
 size_t episode_begin(struct maker *maker, struct both *both, uint64_t seed)
 {
     bool large;
@@ -71,10 +81,7 @@ size_t episode_begin(struct maker *maker, struct both *both, uint64_t seed)
     choose_log(maker, &large);
     both_make(both, maker->room, chance_below(chance, 8));
     fill_areas(maker);
-    if (chance_one_in(chance, large ? 3 : 12))
-        make_refused_power_on(maker);
-    else
-        make_power_on(maker);
+    power(maker, chance_one_in(chance, large ? 3 : 12));
     size_t calls = choose_calls(chance, large);
     if (large && chance_one_in(chance, 2)) {
         run_fill(maker);
@@ -106,10 +113,8 @@ static void anything(struct maker *maker)
         make_empty(maker);
     else if (luck < 960)
         alter_somewhere(maker);
-    else if (luck < 985)
-        make_power_on(maker);
     else if (luck < 994)
-        make_refused_power_on(maker);
+        power(maker, luck >= 985);
     else
         run_fill(maker);
 }

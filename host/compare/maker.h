@@ -38,6 +38,7 @@ void alter_somewhere(struct maker *maker);
 void say(struct maker *maker, unsigned damaged, const char *format, ...) __attribute__((format(printf, 3, 4)));
 void say_any(struct maker *maker);  /* any command */
 void say_read(struct maker *maker); /* a read of what changes as a program runs */
+void say_steps(struct maker *maker); /* reads and writes of lines by I and D, mixed */
 void say_walk(struct maker *maker); /* reads, or writes of lines, of addresses one after the other, by I or D */
 void say_bad(struct maker *maker);  /* a read of a Bad line, by digits, I or D, or its execution */
 void say_special(struct maker *maker);

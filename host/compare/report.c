@@ -60,12 +60,19 @@ static bool print_replies(const struct statistics *statistics)
         [NIZHALEPU_E_OUT_OF_REACH] = "E023 parameter out of reach",
         [NIZHALEPU_E_BAD_LINE] = "E024 Bad line",
     };
+    static const char *const firsts[FIRSTS] = {
+        [FIRST_READ_BY_I] = "I where nothing was read: data",
+        [FIRST_READ_BY_D] = "D where nothing was read: E004",
+        [FIRST_WRITE_BY_I] = "I where nothing was written: OK",
+        [FIRST_WRITE_BY_D] = "D where nothing was written: E004",
+    };
     bool met = true;
     puts("\n  replies");
     met &= class("OK", statistics->accepted_writes);
     met &= class("data", statistics->data);
     for (int e = 1; e < ERRORS; e++)
         if (errors[e] != NULL) met &= class(errors[e], statistics->errors[e]);
+    for (int f = 0; f < FIRSTS; f++) met &= class(firsts[f], statistics->first[f]);
     met &= print_addresses("addresses read, of 217", statistics->reads, 217);
     met &= print_addresses("addresses written, of 207", statistics->writes, 207);
     return met;

@@ -16,14 +16,14 @@ static void collect(struct statistics *statistics, uint8_t byte)
         statistics->characters[statistics->count++] = (uint8_t)toupper(byte);
 }
 
-/* The address that the finished command names, or a number beyond all of them. */
-static unsigned address(const struct statistics *statistics, unsigned last)
+/* The address that the finished command names; there is none below 0 and from ADDRESSES on. */
+static int address(const struct statistics *statistics, int last)
 {
     const uint8_t *c = statistics->characters;
     if (statistics->count >= 3 && c[2] == 'I') return last + 1;
     if (statistics->count >= 3 && c[2] == 'D') return last - 1;
     if (statistics->count < 5 || !isdigit(c[2]) || !isdigit(c[3]) || !isdigit(c[4])) return ADDRESSES;
-    return (c[2] - '0') * 100u + (c[3] - '0') * 10u + (c[4] - '0');
+    return (c[2] - '0') * 100 + (c[3] - '0') * 10 + (c[4] - '0');
 }
 
 /* Stop, Pause, Auto before this call */
@@ -154,20 +154,35 @@ static void count_error(struct statistics *statistics, unsigned number, bool lin
         statistics->astray++;
 }
 
+/* I or D where the last address is before 000, in a command that passes checks 1 and 2: D is E004 whatever stands behind it (02, item 7). */
+static void count_first(struct statistics *statistics, bool read, unsigned error)
+{
+    const uint8_t *c = statistics->characters;
+    if (statistics->count < 3 || statistics->count == sizeof statistics->characters || c[0] != 'C' || (c[1] != 'R' && c[1] != 'W')) return;
+    if (c[2] == 'I' && error == 0)
+        statistics->first[read ? FIRST_READ_BY_I : FIRST_WRITE_BY_I]++;
+    else if (c[2] == 'D' && error == NIZHALEPU_E_ADDRESS)
+        statistics->first[read ? FIRST_READ_BY_D : FIRST_WRITE_BY_D]++;
+    else if (c[2] == 'D')
+        statistics->astray++;
+}
+
 static void count_reply(struct statistics *statistics, const struct both *both)
 {
     const uint8_t *reply = both->area[PROVED][REPLY];
     bool read = statistics->count > 1 && statistics->characters[1] == 'R';
-    unsigned *last = read ? &statistics->last_read : &statistics->last_write;
-    unsigned named = address(statistics, *last), error = 0;
-    bool failed = reply[0] == 'E' && both->said[PROVED].written == 5, line_read = read && named < 200;
+    int *last = read ? &statistics->last_read : &statistics->last_write;
+    int named = address(statistics, *last);
+    unsigned error = 0;
+    bool failed = reply[0] == 'E' && both->said[PROVED].written == 5, line_read = read && named >= 0 && named < 200;
     if (failed) {
         error = (reply[1] - (unsigned)'0') * 100 + (reply[2] - (unsigned)'0') * 10 + reply[3] - (unsigned)'0';
         count_error(statistics, error, line_read);
     }
-    if (line_read) count_read(statistics, line_at(both, named), error);
+    if (*last < 0) count_first(statistics, read, error);
+    if (line_read) count_read(statistics, line_at(both, (unsigned)named), error);
     if (!read && named == 210) count_special(statistics, both, error);
-    if (failed || named >= ADDRESSES) return;
+    if (failed || named < 0 || named >= ADDRESSES) return;
     *last = named;
     if (read) {
         statistics->data++;
@@ -193,8 +208,8 @@ static void count_byte(struct statistics *statistics, uint8_t byte, const struct
 static void power_went_on(struct statistics *statistics)
 {
     statistics->count = 0;
-    statistics->last_read = 0;
-    statistics->last_write = 0;
+    statistics->last_read = -1;
+    statistics->last_write = -1;
     statistics->nones_before = (struct box_nones){0};
     memset(&statistics->before, 0, sizeof statistics->before);
 }

@@ -30,6 +30,9 @@ enum bad {
 /* what is done with a Bad line */
 enum use { USE_READ, USE_RUN, USE_EXECUTED, USE_PASSED, USES };
 
+/* I and D where nothing was read, or written, since power-on */
+enum first { FIRST_READ_BY_I, FIRST_READ_BY_D, FIRST_WRITE_BY_I, FIRST_WRITE_BY_D, FIRSTS };
+
 /* what the readers of the log make of one */
 enum listed {
     LISTED_NONE,
@@ -54,6 +57,7 @@ struct statistics {
     uint64_t errors[ERRORS]; /* by number */
     uint64_t accepted_writes;
     uint64_t data;
+    uint64_t first[FIRSTS]; /* by I answered without an error, by D with E004 */
     /* special commands answered as is due: the code, when stopped, paused, running, with the parameter in and out of reach */
     uint64_t special[CODES][STATES][REACHES];
     uint64_t astray; /* what both boxes did and neither paper has: calls.c names it */
@@ -79,7 +83,7 @@ struct statistics {
     /* what the counting keeps between calls */
     uint8_t characters[33]; /* of the command being collected */
     unsigned count;
-    unsigned last_read, last_write;
+    int last_read, last_write; /* addresses; -1 is before 000 */
     struct box_nones nones_before;
     struct nizhalepu_record before;
 };

@@ -24,10 +24,9 @@ def points_of_the_wire():
     on()
     send("", "E001")
     send("CR", "E001")
-    send("CRI", "S00000000000000")  # 001, not 000; both are end marks: see what D then reads
-    send("CRD", "S00000000000000")
+    send("CRI", "S00000000000000")  # 000: nothing is before it
     send("CRD", "E004")
-    on(saved=END_MARK + "4601000300000000" + END_MARK * 198)
+    on(saved="4601000300000000" + END_MARK * 199)
     send("CRI", "F10003")
     send("CR217", "E004")
     send("CR216", "0000")
@@ -54,9 +53,9 @@ def checks_of_a_command():
     for character in "\0\n\x7f\x80\xff":
         send("CR" + character, "E002")  # a third character
     send("CR ", "E001")  # dropped
-    send("CWIN5", "E003")  # refused, so the last address stays 000
+    send("CWIN5", "E003")  # refused, so the last address stays before 000
     send("CWIN1", "OK")
-    send("CR001", "N1")
+    send("CR000", "N1")
     send("CW000S00000000010009", "OK")
     send("CW210003", "OK")
     send("CW217", "E004")
@@ -65,6 +64,26 @@ def checks_of_a_command():
     send("CW210007", "E020")
     send("CW210001", "OK")
     empty(change(0, 0, 1))
+
+
+def downloads():
+    """02, item 7: at each power-on, after a refused one too, D is E004 and I begins at 000, for reads and writes apart."""
+    lines = [f"F{number % 4 + 1}{number:04}" for number in range(6)]
+    on()
+    send("CRD", "E004")
+    send("CWDN1", "E004")
+    for text in lines:
+        send("CWI" + text, "OK")
+    for text in lines:
+        send("CRI", text)
+    for command, reply in (("CW199N1", "OK"), ("CWIN2", "OK"), ("CWIN3", "E004"), ("CR199", "N1"), ("CRI", "N2"), ("CRI", "80"), ("CR215", "0000"),
+                           ("CRI", "0000"), ("CRI", "E004"), ("CRD", "0000"), ("CW210008", "OK")):
+        send(command, reply)
+    line("on 1600 1600 23", "31")
+    line("on 1600 1600 24", "0")
+    for command, reply in (("CWD" + lines[0], "E004"), ("CRD", "E004"), ("CRI", lines[0]), ("CRI", lines[1]), ("CRD", lines[0]), ("CRD", "E004"),
+                           ("CWI" + lines[5], "OK"), ("CWD" + lines[5], "E004"), ("CR000", lines[5]), ("CR001", lines[1])):
+        send(command, reply)
 
 
 def points_of_running():
@@ -251,6 +270,7 @@ def unread():
 before_power_on()
 points_of_the_wire()
 checks_of_a_command()
+downloads()
 points_of_running()
 points_of_the_log()
 points_of_special_commands()

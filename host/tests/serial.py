@@ -76,6 +76,26 @@ def tick_count(folder):
     box.end()
 
 
+def download(folder):
+    """02, item 7: a program of 200 lines by increments from the power-on, saved; at the next power-on it is read from 000 on likewise."""
+    lines = [f"F{number % 4 + 1}{number:04}" for number in range(200)]
+    box = Box(folder)
+    box.ask("CWD" + lines[0], "E004")
+    for text in lines:
+        box.ask("CWI" + text, "OK")
+    box.ask("CWIN1", "OK")  # 200, the single command
+    box.ask("CWIN1", "E004")
+    box.ask("CW210008", "OK")
+    box.end()
+    box = Box(folder)
+    box.ask("CRD", "E004")
+    for text in lines:
+        box.ask("CRI", text)
+    for reply in "S00000000000000 80 00 00 00 00 00 00 000 000 000 000 012 0000 0000 0000 0000 E004".split():
+        box.ask("CRI", reply)
+    box.end()
+
+
 def buttons(folder):
     box = Box(folder)
     box.ask("CR212", "012")
@@ -292,7 +312,7 @@ def flood(folder):
     box.end()
 
 
-CASES = [exchange, every_byte, ticks_in_time, tick_count, buttons, without_buttons, saving, emptying, emptied_in_time, log_refused,
+CASES = [exchange, download, every_byte, ticks_in_time, tick_count, buttons, without_buttons, saving, emptying, emptied_in_time, log_refused,
          log_removed, save_refused, wrong_files, wrong_options, killed_in_saves, slow_reader, flood, *serial_bad_lines.CASES]
 
 if __name__ == "__main__":

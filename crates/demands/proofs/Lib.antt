@@ -32,4 +32,6 @@ pub mod Exactly
 pub mod Due
 pub mod Specials
 pub mod BadLines
+pub mod Unnamed
+pub mod FirstSteps
 pub mod Errors

@@ -85,7 +85,7 @@ module _ (h : Held) (t : Told) (g : Agrees t (h .state)) (a : Areas) (k : ℕ) (
   of-asked P ok e = ok-at P (asked-ok (h .state) (a .program) P ok) e
 
   -- The address then holds the line that was sent.
-  written-line : reply (seenOf (outcome h (ending a))) ≡ ended (text "OK") → Sent line (lineAtAddress (next h (ending a)) k)
+  pub written-line : reply (seenOf (outcome h (ending a))) ≡ ended (text "OK") → Sent line (lineAtAddress (next h (ending a)) k)
   unfolding does Deeds.byte
   written-line ok =
       let q = asked-write ok in

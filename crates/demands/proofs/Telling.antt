@@ -56,7 +56,7 @@ module _ (t : Told) (h : Held) (m : Made) where
   unfolding tell note
   tell-refused other bad = rw (other, bad)
 
-  tell-power-on : isPowerOn (m .call) ≡ true → tell t (note h m) ≡ powered (if isAccepted h m then length (m .areas .log) else 0)
+  pub tell-power-on : isPowerOn (m .call) ≡ true → tell t (note h m) ≡ powered (if isAccepted h m then length (m .areas .log) else 0)
   unfolding tell note
   tell-power-on is = rw is
 

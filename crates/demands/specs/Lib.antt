@@ -12,6 +12,7 @@ pub mod Said
 pub mod Told
 pub mod Changes
 pub mod Undisturbed
+pub mod FirstSteps
 pub mod ReadBack
 pub mod Formats
 pub mod Replies

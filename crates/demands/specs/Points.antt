@@ -22,9 +22,10 @@ points =
     -- "13 alone, E001. `CR`+13, E001."
     point ("^" ⇒ "E001^" ∷ [])
     ∷ point ("CR^" ⇒ "E001^" ∷ [])
-    -- "`CRI`+13 after power-on reads address 001": the line there, and not that at 000 or 002
-    ∷ point ("CRI^" ⇒ "S00000000000000^" ∷ [])
-    ∷ point ("CW000F10001^" ⇒ "OK^" ∷ "CW001F20002^" ⇒ "OK^" ∷ "CW002F30003^" ⇒ "OK^" ∷ "CRI^" ⇒ "F20002^" ∷ [])
+    -- "`CRI`+13 after power-on reads address 001." 02, item 7: "The worked point that reads 001 now reads 000": no address is before it,
+    -- and none but 000 holds that line.
+    ∷ point ("CRI^" ⇒ "S00000000000000^" ∷ "CRD^" ⇒ "E004^" ∷ [])
+    ∷ point ("CW000F10001^" ⇒ "OK^" ∷ "CW001F20002^" ⇒ "OK^" ∷ "CRI^" ⇒ "F10001^" ∷ [])
     -- "`CR217`+13, E004. `CR216`+13, 0000."
     ∷ point ("CR217^" ⇒ "E004^" ∷ "CR216^" ⇒ "0000^" ∷ [])
     -- "first read of 201 is 80, of 212 is 012, then 201 is 00."

@@ -29,7 +29,7 @@ pub record Told : Type 0 where
   -- the program's run by the running rules: whether it runs (also when paused), line, outputs, loop counters
   pub run : Run
   pub paused : Bool
-  -- "this direction's last address plus one"
+  -- "this direction's last address plus one": the address that I means
   pub nextRead : ℕ
   pub nextWrite : ℕ
   -- the characters received since the last 13
@@ -44,14 +44,14 @@ pub record Told : Type 0 where
   pub logLength : ℕ
 
 -- 01, 'Running': "Power-on: outputs 0, stopped, line 000, parameter 0, tick count 0, log empty, event 012."
--- 'The wire': "Read and write keep separate last addresses, both 000 at power-on (*house*)."
+-- 02, item 7: "At power-on the last address of both directions becomes "before 000": I then means 000".
 abbrev pub powered : ℕ → Told
 powered logLength = record {
   ticks = 0;
   run = freshRun;
   paused = false;
-  nextRead = 1;
-  nextWrite = 1;
+  nextRead = 0;
+  nextWrite = 0;
   received = [];
   single = endMark;
   parameter = 0;

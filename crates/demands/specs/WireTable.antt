@@ -1,8 +1,14 @@
--- 01, 'The wire', and 02, item 4, computed: characters, the seven checks with their numbers and their order, E024 behind them, and the
--- addresses I and D.
-use mathlib.Core.List.{List, [], _∷_}
-use Rattle.demands.specs.Exchanges.{Point, point, _⇒_, alters, program}
+-- 01, 'The wire', and 02, items 4 and 7, computed: characters, the seven checks with their numbers and their order, E024 behind them, and
+-- the addresses I and D, from power-on on.
+use mathlib.Core.List.{List, [], _∷_, _++_}
+use Rattle.demands.specs.Exchanges.{Step, Point, point, _⇒_, try, alters, program}
+use Rattle.controller.specs.Refusals.{powerOn}
+use Rattle.demands.specs.CallsTable.{lent}
 use Rattle.demands.specs.VariablesTable.{eight}
+
+-- the caller puts lines at 000 to 002 that no other address holds, and a Bad one at 003
+abbrev eachItsOwn : Step
+eachItsOwn = alters program 0 (eight 0x4E 1 0 0 0 0 0 0 ++ (eight 0x4E 2 0 0 0 0 0 0 ++ (eight 0x4E 3 0 0 0 0 0 0 ++ eight 0x53 1 0 0 0 0 0 1)))
 
 unfoldable pub wire : List Point
 wire =
@@ -59,12 +65,11 @@ wire =
     ∷ "CW000N1^CW199N2^CW200N3^CW20301^CW20402^CW20503^CW20604^CW209005^CW210001^" ⇒ "OK^OK^OK^OK^OK^OK^OK^OK^OK^"
     ∷ []
     )
-    -- "I (this direction's last address plus one) or D (minus one)"; "Read and write keep separate last addresses, both 000 at
-    -- power-on"; "They move only on a command answered without an error."
+    -- "I (this direction's last address plus one) or D (minus one)"; "Read and write keep separate last addresses"; "They move only on a
+    -- command answered without an error."
     ∷ point (
-    "CRD^CWDN1^" ⇒ "E004^E004^"
-    ∷ "CW000N1^CW001N2^CW002N3^CW003N4^" ⇒ "OK^OK^OK^OK^"
-    ∷ "CRI^CRI^CRI^CRD^CRD^CRD^CRD^CRI^" ⇒ "N2^N3^N4^N3^N2^N1^E004^N2^"
+    "CW000N1^CW001N2^CW002N3^CW003N4^" ⇒ "OK^OK^OK^OK^"
+    ∷ "CRI^CRI^CRI^CRI^CRD^CRD^CRD^CRD^CRI^" ⇒ "N1^N2^N3^N4^N3^N2^N1^E004^N2^"
     ∷ "CWIN2^CR004^CWDF10003^CR003^" ⇒ "OK^N2^OK^F10003^"
     -- errors of every check, and then the address after the last one
     ∷ "CR001^CR^XR100^CR217^CR1000^CRI^" ⇒ "N2^E001^E002^E004^E002^N3^"
@@ -80,9 +85,35 @@ wire =
     ∷ "CR005^CRI0^CRD0^CRI00^CWI^CWD^" ⇒ "S00000000000000^E002^E002^E002^E004^E002^"
     ∷ []
     )
-    -- both at power-on
-    ∷ point ("CWIN4^CR001^CR002^" ⇒ "OK^N4^S00000000000000^" ∷ [])
-    ∷ point ("CR100^CWIN4^CR001^CRI^CRD^" ⇒ "S00000000000000^OK^N4^S00000000000000^N4^" ∷ [])
+    -- 02, item 7: "At power-on the last address of both directions becomes "before 000": I then means 000, D is E004." So of reads,
+    ∷ point (eachItsOwn ∷ "CRI^CRD^CRI^CRI^CRD^CRD^CRD^" ⇒ "N1^E004^N2^N3^N2^N1^E004^" ∷ [])
+    ∷ point (eachItsOwn ∷ "CRD^CRD^CRI^CRD^CRI^" ⇒ "E004^E004^N1^E004^N2^" ∷ [])
+    -- and of writes,
+    ∷ point (eachItsOwn ∷ "CWIN4^CWIN3^CWDN2^CWDN1^CR000^CR001^CR002^" ⇒ "OK^OK^OK^E004^N2^N3^N3^" ∷ [])
+    ∷ point (eachItsOwn ∷ "CWDN4^CWDN4^CWIN2^CWDN4^CR000^CR001^" ⇒ "E004^E004^OK^E004^N2^N2^" ∷ [])
+    -- whatever the other direction did,
+    ∷ point (eachItsOwn ∷ "CR002^CRD^CWDN4^CWIN4^CR000^CR001^" ⇒ "N3^N2^E004^OK^N4^N2^" ∷ [])
+    ∷ point (eachItsOwn ∷ "CW002N4^CWDN4^CRD^CRI^CRI^CRI^" ⇒ "OK^OK^E004^N1^N4^N4^" ∷ [])
+    -- and after errors of every check, of a Bad line too: all that can come before a first accepted write (209 then is 0, in reach)
+    ∷ point (
+    eachItsOwn
+    ∷ "CR^XR001^CR217^CR0011^CRI0^CRD0^CR003^CRI^" ⇒ "E001^E002^E004^E002^E002^E004^E024^N1^"
+    ∷ "CW^XW001N4^CW201^CW001^CW001X^CWI^CWIX^CWD^" ⇒ "E001^E002^E004^E002^E003^E002^E003^E004^"
+    ∷ "CW210009^CW210004^CW210002^CWIN4^CR000^CR001^" ⇒ "E003^E021^E022^OK^N4^N2^"
+    ∷ []
+    )
+    ∷ point (alters program 0 (eight 0x53 1 0 0 0 0 0 1) ∷ "CRI^CRI^CRD^CWIN1^CRI^CRD^" ⇒ "E024^E024^E004^OK^N1^E004^" ∷ [])
+    ∷ point (alters program 0 (eight 0x53 0 0 0 0 1 0 9) ∷ "!CWIN4^CWDN4^CW210003^!CWIN4^CR000^CR001^" ⇒ "E005^E004^E020^OK^N4^S00000000000000^" ∷ [])
+    -- and so at every power-on, after one that was refused too
+    ∷ point (
+    "CR100^CW100N1^" ⇒ "S00000000000000^OK^"
+    ∷ try powerOn (lent 1600 1600 24 0) 0
+    ∷ "CRD^CWDN1^CWIN1^CRI^CRD^CWIN2^CRI^" ⇒ "E004^E004^OK^N1^E004^OK^N2^"
+    ∷ try powerOn (lent 1600 1600 23 0) 31
+    ∷ try powerOn (lent 1600 1600 24 0) 0
+    ∷ "CRD^CWDN1^CWIN3^CRI^CRD^" ⇒ "E004^E004^OK^N3^E004^"
+    ∷ []
+    )
     -- "4. Write while running or paused to anything but 209 and 210: E005." After check 3, before checks 5 and 6.
     ∷ point (
     "CW000S00000000FF0100^CW210003^CR201^" ⇒ "OK^OK^82^"

@@ -1,21 +1,22 @@
 -- Laws of addresses: a named address is found, and none lies outside 000-216.
 -- Assumes nothing.
 use mathlib.Core.Path.{_≡_, refl, sym, ap, _∙_}
+use mathlib.Core.Logic.{inl, inr}
 use Prim.Native.Nat.{ℕ, suc, _-_, _/_, _%_, _≤_, _<_}
 use Prim.Native.Char.{code}
 use native.Mathlib.Omega.{arith}
 use mathlib.Core.Bool.{Bool, true, false, not, _&&_, _||_, true≢false}
-use mathlib.Core.List.{List, _∷_, _++_}
+use mathlib.Core.List.{List, _∷_, _++_, head-eq-of-cons-eq}
 use lib.ListN.{length, drop, length-drop}
 use lib.Dec.{eqb, leb}
 use borrow.Author.Tests.{eq-eqb, ne-eqb, le-leb, lt-leb, leb-true, leb-false, not-true}
-use Rattle.formats.specs.Checks.{passed, _>>=_, _>>_, _orElse_, text, Ok}
+use Rattle.formats.specs.Checks.{refused, passed, _>>=_, _>>_, _orElse_, text, Ok}
 use Rattle.formats.specs.Digits.{digits, digitChar, shown, numberIn}
-use Rattle.formats.proofs.Checks.{if-case, both-true, and-false, below, ok-passed, ok-guard}
-use Rattle.formats.proofs.Characters.{shown-back}
+use Rattle.formats.proofs.Checks.{if-case, both-true, and-false, not-so, below, ok-passed, ok-guard}
+use Rattle.formats.proofs.Characters.{shown-back, length-shown}
 use Rattle.formats.specs.Bytes.{part}
 use Rattle.wire.specs.Command.{char, isRead, isWrite, isStepwise, hasAddress, inFormat, rest, addressIn, isWritable}
-use Rattle.wire.specs.Naming.{Names, byDigits, byI, byD}
+use Rattle.wire.specs.Naming.{Names, byDigits, byI, byD, IsStep, NamesNone}
 
 -- no digit is the letter I or D
 digit-no-letter : (v : ℕ) → v < 10 → (eqb (digitChar v) (code "I") ≡ false) × (eqb (digitChar v) (code "D") ≡ false)
@@ -60,6 +61,28 @@ module _ (x y next k : ℕ) (inside : k ≤ 216) (more : List ℕ) where
         three = le-leb 3 (suc (suc (suc (length more)))) (omega arith);
         long = refl;
       })
+
+-- 02, item 7: from before 000, where `next` is 000, D names none; nor does it from 000.
+pub none-before : (next : ℕ) → next ≤ 1 → NamesNone next (text "D")
+unfolding text
+none-before next few k le (byDigits d) = let n : _≡_ {A = ℕ} 1 3 = ap length d ∙ length-shown 10 3 k in omega arith
+none-before next few k le (byI i n) = let z : _≡_ {A = ℕ} 68 73 = head-eq-of-cons-eq i in omega arith
+none-before next few k le (byD d n) = omega arith
+
+-- I or D where it names none is E004, whatever stands behind it.
+module _ (x y next : ℕ) (more : List ℕ) (le : next ≤ 217) where
+  none-onward : NamesNone next (text "I") → addressIn next (x ∷ y ∷ (text "I" ++ more)) ≡ refused 4
+  unfolding addressIn text _>>_ _orElse_
+  none-onward none = rw (not-so (leb next 216) (λ e. none next (leb-true next 216 e) (byI refl refl)))
+
+  none-back : NamesNone next (text "D") → addressIn next (x ∷ y ∷ (text "D" ++ more)) ≡ refused 4
+  unfolding addressIn text _>>_ _orElse_
+  none-back none =
+      rw (not-so (leb 2 next) (λ e. let two = leb-true 2 next e in none (next - 2) (omega arith) (byD refl (omega arith))))
+
+  pub unnamed : (a : List ℕ) → IsStep a → NamesNone next a → addressIn next (x ∷ y ∷ (a ++ more)) ≡ refused 4
+  unnamed a (inl i) none = rw i (none-onward (rw i at none))
+  unnamed a (inr d) none = rw d (none-back (rw d at none))
 
 -- Every address that passes the check lies in 000-216.
 pub address-inside : (next : ℕ) (cs : List ℕ) → next ≤ 217 → Ok (λ k. k ≤ 216) (addressIn next cs)

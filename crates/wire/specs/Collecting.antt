@@ -13,10 +13,10 @@ use Rattle.wire.specs.declared.Wire.{Wire}
 abbrev pub mostChars : ℕ
 mostChars = 32
 
--- At power-on nothing is collected. "Read and write keep separate last addresses, both 000 at power-on (*house*)", so the next ones
--- are 001.
+-- At power-on nothing is collected. "Read and write keep separate last addresses"; each is kept as the address after it, which is what I
+-- means. 02, item 7: "At power-on the last address of both directions becomes "before 000": I then means 000".
 abbrev pub freshWire : Wire
-freshWire = record { chars = replicate mostChars 0; len = 0; overlong = false; nextread = 1; nextwrite = 1 }
+freshWire = record { chars = replicate mostChars 0; len = 0; overlong = false; nextread = 0; nextwrite = 0 }
 
 -- "They move only on a command answered without an error": address k was read, or written
 abbrev pub readTo : ℕ → Wire → Wire

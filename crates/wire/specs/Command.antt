@@ -40,7 +40,7 @@ rest cs = drop (if isStepwise cs then 3 else 5) cs
 -- ---- check 3
 
 -- "Address: three digits, or I (this direction's last address plus one) or D (minus one). Non-digits, a value outside 000-216
--- [...] E004". Here `next` is the last address plus one.
+-- [...] E004". Here `next` is the address after the last one, 000 where that is "before 000" (02, item 7), and D is two below it.
 unfoldable pub addressIn : ℕ → List ℕ → Res ℕ
 addressIn next cs =
     if eqb (char cs 2) (code "I") then (do

@@ -8,6 +8,6 @@ use Rattle.wire.specs.Collecting.{mostChars}
 pub record WireInvariant (w : Wire) : Type 0 where
   pub whole : length (w .chars) ≡ mostChars
   pub fits : w .len ≤ mostChars
-  -- the last address of each direction is one of 000-216
+  -- the last address of each direction is one of 000-216 or "before 000", and the one after it is kept
   pub nextRead : w .nextread ≤ 217
   pub nextWrite : w .nextwrite ≤ 217

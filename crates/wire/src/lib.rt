@@ -26,9 +26,9 @@ pub struct Wire {
     pub len: usize,
     // a 33rd character came
     pub overlong: bool,
-    // the last address read, plus one: what I means in a read
+    // the address after the last one read: what I means in a read, 0 as long as none was read
     pub nextread: u8,
-    // the last address written, plus one: what I means in a write
+    // the address after the last one written: what I means in a write, 0 as long as none was written
     pub nextwrite: u8,
 }
 
@@ -59,7 +59,7 @@ pub enum Heard {
 }
 
 impl Wire {
-    // At power-on nothing is collected, and the last addresses are 000.
+    // At power-on nothing is collected, and the last addresses are before 000.
     pub fn fresh() -> Wire
         ensures wire { λ r. ⌜ r ≡ freshWire ⌝ }
     {
@@ -68,8 +68,8 @@ impl Wire {
             chars,
             len: 0,
             overlong: false,
-            nextread: 1,
-            nextwrite: 1,
+            nextread: 0,
+            nextwrite: 0,
         }
     }
 

@@ -1,0 +1,137 @@
+-- 02, item 7: "First increment is line 000." From every power-on, taken or refused, until something is read, I in a read means 000 and D is
+-- E004; until something is written, likewise in a write.
+-- Assumes nothing.
+use mathlib.Core.Path.{_≡_, refl, sym, ap, _∙_}
+use mathlib.Core.Logic.{inr}
+use Prim.Native.Nat.{ℕ, _≤_}
+use native.Mathlib.Omega.{arith}
+use mathlib.Core.Bool.{Bool, true, false, true≢false}
+use mathlib.Core.List.{List, [], _∷_, _++_}
+use lib.ListN.{length}
+use Rattle.formats.specs.Checks.{text}
+use Rattle.formats.specs.Digits.{errorText}
+use Rattle.formats.proofs.Checks.{if-case, both-false}
+use Rattle.lines.specs.declared.Line.the-variants.{Bad}
+use Rattle.lines.specs.Line.{isBad}
+use Rattle.lines.specs.Program.{lineAt}
+use Rattle.texts.specs.Text.{lineText}
+use Rattle.texts.proofs.Texts.{Sent}
+use Rattle.variables.specs.Variables as Variables
+use Rattle.wire.specs.Collecting.{mostChars}
+use Rattle.wire.specs.Naming.{byI}
+use Rattle.wire.proofs.Addresses.{none-before}
+use Rattle.controller.specs.Controller.{Areas}
+use Rattle.controller.specs.Deeds.{ended}
+use Rattle.controller.specs.Refusals.{Call}
+use Rattle.controller.specs.Effects.{isPowerOn}
+use Rattle.demands.specs.Histories.{ending, powering, Made, unpowered, next, after}
+use Rattle.demands.specs.Seen.{isTaken, reply, seen, Note, notes}
+use Rattle.demands.specs.Said.{Said, silence, reads, writesLine, writesOutputs, writesParameter, gives, isReading, isWriting}
+use Rattle.demands.specs.Told.{Told, powered, said, nextReadThen, nextWriteThen, afterwards, tell, tellAll, told, Never}
+use Rattle.demands.specs.ReadBack.{Arrives}
+use Rattle.demands.specs.FirstSteps.{hasRead, hasWritten, Unread, Unwritten}
+use Rattle.demands.proofs.AsTold.{held-as-told}
+use Rattle.demands.proofs.Telling.{tell-power-on, told-more}
+use Rattle.demands.proofs.Replies.{reads-as-told}
+use Rattle.demands.proofs.Unnamed.{no-such-read, no-such-write}
+use Rattle.demands.proofs.BadLines.{bad-read}
+use Rattle.demands.proofs.ReadsBack.{written-line}
+
+-- ---- what the history says
+
+-- a call that reads nothing leaves the last address read, a call that writes nothing the last one written
+unread-stays : (k : Call) (s : Said) (a : Areas) (t : Told) → isReading s ≡ false → nextReadThen k s a t ≡ t .nextRead
+unread-stays k silence a t u = refl
+unread-stays k (reads j) a t u = absurd (true≢false u)
+unread-stays k (writesLine j l) a t u = refl
+unread-stays k (writesOutputs j x) a t u = refl
+unread-stays k (writesParameter v) a t u = refl
+unread-stays k (gives n) a t u = refl
+
+unwritten-stays : (k : Call) (s : Said) (a : Areas) (t : Told) → isWriting s ≡ false → nextWriteThen k s a t ≡ t .nextWrite
+unwritten-stays k silence a t u = refl
+unwritten-stays k (reads j) a t u = refl
+unwritten-stays k (writesLine j l) a t u = absurd (true≢false u)
+unwritten-stays k (writesOutputs j x) a t u = absurd (true≢false u)
+unwritten-stays k (writesParameter v) a t u = absurd (true≢false u)
+unwritten-stays k (gives n) a t u = absurd (true≢false u)
+
+read-kept : (t : Told) (n : Note) → hasRead t n ≡ false → t .nextRead ≡ 0 → tell t n .nextRead ≡ 0
+unfolding tell afterwards
+read-kept t n u e =
+    if-case (λ (x : Told). x .nextRead ≡ 0) (isPowerOn (n .call)) (λ _. refl) λ _.
+    if-case (λ (x : Told). x .nextRead ≡ 0) (isTaken (n .seen))
+    (λ ok. unread-stays (n .call) (said t n) (n .lent) t (both-false _ _ ok u) ∙ e) λ _. e
+
+write-kept : (t : Told) (n : Note) → hasWritten t n ≡ false → t .nextWrite ≡ 0 → tell t n .nextWrite ≡ 0
+unfolding tell afterwards
+write-kept t n u e =
+    if-case (λ (x : Told). x .nextWrite ≡ 0) (isPowerOn (n .call)) (λ _. refl) λ _.
+    if-case (λ (x : Told). x .nextWrite ≡ 0) (isTaken (n .seen))
+    (λ ok. unwritten-stays (n .call) (said t n) (n .lent) t (both-false _ _ ok u) ∙ e) λ _. e
+
+-- of either direction: what one call keeps is kept by all
+module _ (direction : Told → ℕ) (moves : Told → Note → Bool)
+    (kept : (t : Told) (n : Note) → moves t n ≡ false → direction t ≡ 0 → direction (tell t n) ≡ 0) where
+  all-kept : (ns : List Note) (t : Told) → Never moves t ns → direction t ≡ 0 → direction (tellAll t ns) ≡ 0
+  unfolding tellAll
+  all-kept [] t u e = e
+  all-kept (n ∷ ns) t u e = all-kept ns (tell t n) (u .1) (kept t n (u .0) e)
+
+-- the calls `before`, a power-on, and calls after it
+module _ (before later : List Made) (a : Areas) where
+  abbrev powered-on : List Made
+  powered-on = before ++ (powering a ∷ [])
+
+  abbrev by-now : List Made
+  by-now = powered-on ++ later
+
+  at-power-on : (n : ℕ) × (told powered-on ≡ powered n)
+  unfolding notes tellAll
+  at-power-on = (_, told-more before (powering a ∷ []) ∙ tell-power-on (told before) (after unpowered before) (powering a) refl)
+
+  -- none of which is a read that is answered without an error
+  module _ (unread : Unread (told powered-on) (notes (after unpowered powered-on) later)) where
+    reads-from : told by-now .nextRead ≡ 0
+    reads-from =
+        ap (λ (t : Told). t .nextRead) (told-more powered-on later)
+        ∙ all-kept (λ (t : Told). t .nextRead) hasRead read-kept _ _ unread (ap (λ (t : Told). t .nextRead) (at-power-on .1))
+
+    -- "I then means 000": the reply is the text of line 000 of the program lent, or E024 where that line is Bad.
+    pub first-read : (b : Areas) → Arrives (told by-now) (text "CR" ++ text "I") → isTaken (seen by-now (ending b)) ≡ true
+        → (isBad (lineAt (b .program) 0) ≡ false → reply (seen by-now (ending b)) ≡ ended (lineText (lineAt (b .program) 0)))
+        × (lineAt (b .program) 0 ≡ Bad → reply (seen by-now (ending b)) ≡ ended (errorText 24))
+    unfolding Variables.value Variables.isBadAt Variables.lineOf
+    first-read b arrived taken = (
+      λ good. reads-as-told by-now b 0 (omega arith) (text "I") arrived (byI refl (sym reads-from)) taken .0 good .0,
+      bad-read by-now b (text "I") arrived taken 0 (omega arith) (byI refl (sym reads-from)),
+    )
+
+    -- "D is E004", whatever stands behind it; a command of more than 32 characters is E002 by an earlier check.
+    pub no-read-before : (b : Areas) (more : List ℕ) → let command = text "CR" ++ (text "D" ++ more) in
+        length command ≤ mostChars → Arrives (told by-now) command → isTaken (seen by-now (ending b)) ≡ true
+        → reply (seen by-now (ending b)) ≡ ended (errorText 4)
+    no-read-before b more few arrived taken =
+        no-such-read by-now b taken (text "D") more (inr refl) few arrived (none-before _ (rw reads-from (omega arith)))
+
+  -- none of which is a write that is answered OK
+  module _ (unwritten : Unwritten (told powered-on) (notes (after unpowered powered-on) later)) where
+    writes-from : told by-now .nextWrite ≡ 0
+    writes-from =
+        ap (λ (t : Told). t .nextWrite) (told-more powered-on later)
+        ∙ all-kept (λ (t : Told). t .nextWrite) hasWritten write-kept _ _ unwritten (ap (λ (t : Told). t .nextWrite) (at-power-on .1))
+
+    -- "I then means 000": what is answered OK stands at line 000 of the program area afterwards, the line that was sent.
+    pub first-write : (b : Areas) (line : List ℕ) → Arrives (told by-now) (text "CW" ++ (text "I" ++ line)) → isTaken (seen by-now (ending b)) ≡ true
+        → reply (seen by-now (ending b)) ≡ ended (text "OK") → Sent line (lineAt (seen by-now (ending b) .areas .program) 0)
+    unfolding seen next Variables.lineOf
+    first-write b line arrived taken ok =
+        let h = after unpowered by-now in
+        rw taken at (written-line h (told by-now) (held-as-told by-now) b 0 (text "I") line (omega arith) arrived (byI refl (sym writes-from)) taken ok)
+
+    -- "D is E004", whatever stands behind it
+    pub no-write-before : (b : Areas) (more : List ℕ) → let command = text "CW" ++ (text "D" ++ more) in
+        length command ≤ mostChars → Arrives (told by-now) command → isTaken (seen by-now (ending b)) ≡ true
+        → reply (seen by-now (ending b)) ≡ ended (errorText 4)
+    no-write-before b more few arrived taken =
+        no-such-write by-now b taken (text "D") more (inr refl) few arrived (none-before _ (rw writes-from (omega arith)))
