@@ -213,6 +213,9 @@ static void test_variables(void) {
     want.wire.nextread = 138;
     want.log.kept = 4;
     check_record("variables written");
+    command("CR216", "0000", 0);
+    want.wire.nextread = 217;
+    check_record("the last address read");
     command("CR212", "012", 0);
     want.wire.nextread = 213;
     want.panel.event = 0;

@@ -4,7 +4,7 @@ These come before all others. Power-on is not repeated, and no write makes a lin
 every line which was not written is Bad, until the last scenario saves end marks.
 """
 
-from script import END, LONG, program, say, scenario, stopped_by
+from script import END, LONG, line_for, program, say, scenario, stopped_by
 
 
 ONE, TWO = "S00000000010001", "S00000000020001"   # for one tick each
@@ -19,14 +19,18 @@ def unwritten(*lines, at=0):
 
 @scenario
 def power_on():
-    # "13 alone, E001"; "The worked point that reads 001 now reads 000": that line is Bad, and E024 leaves the last read address before 000, as D
-    # shows. The last written address is before 000 as well: a write by I goes to 000, and the same CRI reads it.
-    say("^CR^CRI^CRD^CWDN1^CWI^CWIN1^CRI^CR000^CRD^CRI^", "E001 E001 E024 E004 E004 E002 OK N1 N1 E004 E024")
-    # "first read of 201 is 80, of 212 is 012, then 201 is 00".
-    say("CR210^CR201^CR212^CR201^CR212^", "000 80 012 00 000")
-    # "Load and save copy the bytes unaltered", and power-on loads: zeros stay zeros. 200 is an end mark.
-    say("CR001^CR002^CR199^CR200^", "E024 E024 E024 " + END)
-    say("CW210007^CR000^CW210008^CW210007^CR000^", "OK E024 OK OK E024")
+    # "13 alone, E001"; "power-on loads": zeros are Bad, and stay so.
+    say("^CR^CR000^CR001^CR199^", "E001 E001 E024 E024 E024")
+    # "The worked point that reads 001 now reads 000": that line is Bad, and E024 leaves the last address read before 000, as D shows.
+    say("CRI^CRD^CWDN1^CWI^", "E024 E004 E004 E002")
+    # The last address written is before 000 as well: by I alone the whole program is written, and then read. 200 is an end mark, the "first
+    # read of 201 is 80, of 212 is 012, then 201 is 00".
+    lines = [line_for(address) for address in range(200)]
+    say("".join("CWI%s^" % line for line in lines), "OK " * 200)
+    say("CRI^" * 219, " ".join(lines) + " %s 80 00 00 00 00 00 00 000 000 000 000 012 0000 0000 0000 0000 E004 E004" % END)
+    say("CR210^CR201^CR212^", "000 00 000")
+    # "Load and save copy the bytes unaltered": zeros stay zeros.
+    say("CW210007^CR001^CW210008^CW210007^CR001^CR200^", "OK E024 OK OK E024 " + END)
     say("CR203^CR204^CR205^CR206^CR209^CR211^CR213^CR216^", "00 00 00 00 000 000 0000 0000")
 
 

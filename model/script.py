@@ -43,6 +43,13 @@ def known(*lines, at=0):
     program(*lines, at=at)
 
 
+def line_for(address):
+    """A line of its own for each address; 000 holds the box for long."""
+    return LONG if address == 0 else [
+        "S00%08X%04d" % (address * 0x01010101 % 2 ** 32, address * 50),
+        "F%d%04d" % (address % 4 + 1, address * 49), "N%d" % (address % 4 + 1)][address % 3]
+
+
 def enter(state):
     """From stopped with a long line at 000 to one of the three states."""
     say({"stopped": "", "running": "CW210003^", "paused": "CW210003^%"}[state],

@@ -1,6 +1,6 @@
 """Scenarios of I and D from power-on on (02, item 7): the last address of both directions is "before 000"."""
 
-from trial_script import SAVED, alter, byte, fresh, lend, on, press, save_end_marks, say, scenario, tick
+from trial_script import SAVED, alter, byte, empty, fresh, lend, on, press, program, save_end_marks, say, scenario, tick
 
 OWN = ("4E010000 00000000", "4E020000 00000000", "4E030000 00000000")  # N1, N2 and N3, which no other address holds
 BAD = "00000000 00000000"
@@ -44,14 +44,15 @@ def first_steps_apart():
 @scenario
 def first_steps_after_errors():
     # "They move only on a command answered without an error": each error that can come before a first command is taken.
-    reads = (("CR", "E001"), ("XR001", "E002"), ("CR21", "E002"), ("CR217", "E004"), ("CR00A", "E004"), ("CRD", "E004"), ("CRD0", "E004"),
-             ("CRI0", "E002"), ("CR0010", "E002"), ("CR003", "E024"), ("CRI" + "0" * 30, "E002"))
-    writes = (("CW", "E001"), ("XW001N4", "E002"), ("CW217N4", "E004"), ("CW201", "E004"), ("CW21600", "E004"), ("CWD", "E004"), ("CWDN4", "E004"),
+    reads = (("", "E001"), ("CR", "E001"), ("XR001", "E002"), ("XRD", "E002"), ("CR21", "E002"), ("CR217", "E004"), ("CR00A", "E004"), ("CRD", "E004"), ("CRD0", "E004"),
+             ("CRI0", "E002"), ("CR0010", "E002"), ("CR003", "E024"), ("CRI" + "0" * 30, "E002"), ("CRD" + "0" * 29, "E004"), ("CRD" + "0" * 30, "E002"))
+    writes = (("CW", "E001"), ("XW001N4", "E002"), ("XWDN4", "E002"), ("CWD" + "0" * 29, "E004"), ("CWD" + "0" * 30, "E002"), ("CW217N4", "E004"), ("CW201", "E004"), ("CW21600", "E004"), ("CWD", "E004"), ("CWDN4", "E004"),
               ("CW001", "E002"), ("CWI", "E002"), ("CWI00", "E003"), ("CWIN5", "E003"), ("CWIN12", "E002"), ("CW001N5", "E003"),
               ("CW209256", "E003"), ("CW210000", "E003"), ("CW210009", "E003"), ("CW210002", "E022"), ("CW210004", "E021"))
     for command, reply in reads:
         fresh(*OWN, BAD)
-        asked(command + " CRD CRI", reply + " E004 N1")
+        say(command, reply)
+        asked("CRD CRI", "E004 N1")
     for command, reply in writes:
         fresh(*OWN, BAD)
         asked(command + " CWDN4 CWIN4 CR000 CR001", reply + " E004 OK N4 N2")
@@ -82,10 +83,11 @@ def first_steps_while_running():
 
 @scenario
 def first_steps_and_other_calls():
-    # Ticks, presses, bytes of no command and refused calls are no commands: 000 is still before all.
+    # Ticks, presses, emptyings, bytes of no command and refused calls are no commands: both last addresses are still before 000.
     fresh(*OWN, log=36)
     tick(times=3)
     press(2)
+    empty()
     lend(log=35)
     byte(13, 31)
     lend(log=36, out=15)
@@ -111,6 +113,22 @@ def first_steps_at_every_power_on():
     # "At power-on": at each, after a refused one too, whatever was read and written before.
     alter(SAVED, 0, " ".join(OWN))
     fresh()
+    program("53000000 00000009", at=5)
+    say("CW209005", "OK")
+    for pause in (False, True):  # while a program runs or is paused, in the middle of a command
+        say("CW210005", "OK")
+        if pause:
+            press(2)
+        asked("CR001 CR005", "N2 S00000000000009")
+        for char in "CR0":
+            byte(ord(char))
+        on()
+        say("", "E001")
+        asked("CRD CRI CWDN4 CWIN4 CR000 CR001", "E004 N1 E004 OK N4 N2")
+        program(OWN[0])
+        program("53000000 00000009", at=5)
+        say("CW209005", "OK")
+    on()
     for moved in ("CR100", "CW100N1", "CR216", "CRI", "CWIN4", "CR000", "CW000N4", "CW209009"):
         for refused in (False, True):
             say(moved, {"CR100": END_MARK, "CR216": "0000", "CRI": "N1", "CR000": "N1"}.get(moved, "OK"))
@@ -123,6 +141,30 @@ def first_steps_at_every_power_on():
             on()
             asked("CRD CWDN4 CRI CRD CWIN4 CWDN4 CR000 CR001", "E004 E004 N1 E004 OK E004 N4 N2")
             on()
-    # A load is no power-on.
-    asked("CR001 CW210007 CRD CWD009 CR209", "N2 OK N1 OK 009")
+    save_end_marks()
+
+
+def an_event():
+    press(1)
+    tick(times=8)
+    tick(lines=1)
+
+
+@scenario
+def steps_from_the_last_address():
+    # A power-on and nothing else makes them "before 000": after anything else, I and D go by the last address of their direction.
+    alter(SAVED, 0, " ".join(("53000000 00000009", *OWN)))
+    for between in (tick, an_event, empty, lambda: (press(1), press(1)), lambda: (press(1), press(2), press(1)), lambda: press(2),
+                    lambda: press(3, 34), lambda: say("", "E001"), lambda: say("XRD", "E002"), lambda: say("CR217", "E004"), lambda: say("CW217", "E004"),
+                    lambda: say("CW210002", "E022"), lambda: say("CW210004", "E021"), lambda: say("CW210009", "E003"), lambda: byte(32)):
+        fresh(log=36)
+        asked("CR002 CW002N2", "N2 OK")
+        between()
+        asked("CRI CRD CRD CWIN4 CWDN1 CR003 CR002", "N3 N2 N1 OK OK N4 N1")
+    # Each special command that is taken; a load is no power-on.
+    for code in (1, 3, 5, 6, 7, 8):
+        fresh(log=36)
+        say("CR002", "N2")
+        say("CW210%03d" % code, "OK")
+        asked("CRI CRD CRD CWI000 CWD000", "N3 N2 N1 E004 OK")
     save_end_marks()

@@ -1,6 +1,6 @@
 """Scenarios of the wire and the variables."""
 
-from script import END, LONG, box, enter, known, program, say, scenario, stopped_by
+from script import END, LONG, box, enter, known, line_for, program, say, scenario, stopped_by
 
 
 # ---- The paper's own points.
@@ -206,13 +206,6 @@ def outputs_by_byte():
     say("CW210006^" + read, "OK 12 34 56 78")
     # A State line sets all 32 at once; the time passes; the stop keeps the outputs.
     say("CW001S00FEDCBA980000^!#" + read + "CR212^", "OK FE DC BA 98 011")
-
-
-def line_for(address):
-    """A line of its own for each address; 000 holds the box for long."""
-    return LONG if address == 0 else [
-        "S00%08X%04d" % (address * 0x01010101 % 2 ** 32, address * 50),
-        "F%d%04d" % (address % 4 + 1, address * 49), "N%d" % (address % 4 + 1)][address % 3]
 
 
 @scenario

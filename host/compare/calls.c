@@ -113,8 +113,8 @@ static int finish(struct calls *calls)
     printf("%" PRIu64 " logs on both readers: equal in every text and in every byte behind it.\n", calls->lists.read);
     bool met = statistics_print(&calls->statistics);
     if (calls->statistics.astray > 0) {
-        printf("\nASTRAY: %" PRIu64 " times both boxes did what is not the papers': an error that has no meaning; another reply than E004 to\n"
-               "D from before 000; a special command that is not answered as above, or a read of a line not as its eight bytes are; a\n"
+        printf("\nASTRAY: %" PRIu64 " times both boxes did what is not the papers': an error that has no meaning; from before 000 E004 to I, or\n"
+               "another reply than that to D; a special command that is not answered as above, or a read of a line not as its eight bytes are; a\n"
                "power-on, load or save that is no copy; a Bad line that set outputs, or stopped the program with another event than 014;\n"
                "014 on a line that is not Bad.\n",
                calls->statistics.astray);

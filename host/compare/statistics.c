@@ -154,7 +154,8 @@ static void count_error(struct statistics *statistics, unsigned number, bool lin
         statistics->astray++;
 }
 
-/* I or D where the last address is before 000, in a command that passes checks 1 and 2: D is E004 whatever stands behind it (02, item 7). */
+/* I or D where the last address is before 000, in a command that passes checks 1 and 2: D is E004 whatever stands behind it, and I, which
+ * is 000, never is (02, item 7). */
 static void count_first(struct statistics *statistics, bool read, unsigned error)
 {
     const uint8_t *c = statistics->characters;
@@ -163,7 +164,7 @@ static void count_first(struct statistics *statistics, bool read, unsigned error
         statistics->first[read ? FIRST_READ_BY_I : FIRST_WRITE_BY_I]++;
     else if (c[2] == 'D' && error == NIZHALEPU_E_ADDRESS)
         statistics->first[read ? FIRST_READ_BY_D : FIRST_WRITE_BY_D]++;
-    else if (c[2] == 'D')
+    else if (c[2] == 'D' || (c[2] == 'I' && error == NIZHALEPU_E_ADDRESS))
         statistics->astray++;
 }
 

@@ -32,7 +32,7 @@ use Rattle.demands.specs.Said.{Said, silence, reads, writesLine, writesO
 use Rattle.demands.specs.Told.{Told, executed, lineNamed}
 use Rattle.demands.proofs.Collects.{Collects}
 
--- the wire, where this direction's last addresses plus one and the characters received are these
+-- the wire, where the addresses that I means, in a read and in a write, and the characters received are these
 pub record WireAgrees (i o : ℕ) (cs : List ℕ) (w : Wire) : Type 0 where
   pub nextRead : w .nextread ≡ i
   pub nextWrite : w .nextwrite ≡ o

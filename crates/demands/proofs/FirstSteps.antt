@@ -1,5 +1,5 @@
--- 02, item 7: "First increment is line 000." From every power-on, taken or refused, until something is read, I in a read means 000 and D is
--- E004; until something is written, likewise in a write.
+-- 02, item 7: "First increment is line 000." From every power-on until something is read, I in a read means 000 and D is E004; until something is
+-- written, likewise in a write. After a refused power-on no command is taken, so that these speak of commands after the next one that is not.
 -- Assumes nothing.
 use mathlib.Core.Path.{_≡_, refl, sym, ap, _∙_}
 use mathlib.Core.Logic.{inr}
@@ -11,9 +11,11 @@ use lib.ListN.{length}
 use Rattle.formats.specs.Checks.{text}
 use Rattle.formats.specs.Digits.{errorText}
 use Rattle.formats.proofs.Checks.{if-case, both-false}
+use Rattle.lines.specs.declared.Line.{Line}
 use Rattle.lines.specs.declared.Line.the-variants.{Bad}
 use Rattle.lines.specs.Line.{isBad}
 use Rattle.lines.specs.Program.{lineAt}
+use Rattle.lines.proofs.Lines.{Fits}
 use Rattle.texts.specs.Text.{lineText}
 use Rattle.texts.proofs.Texts.{Sent}
 use Rattle.variables.specs.Variables as Variables
@@ -35,7 +37,7 @@ use Rattle.demands.proofs.Telling.{tell-power-on, told-more}
 use Rattle.demands.proofs.Replies.{reads-as-told}
 use Rattle.demands.proofs.Unnamed.{no-such-read, no-such-write}
 use Rattle.demands.proofs.BadLines.{bad-read}
-use Rattle.demands.proofs.ReadsBack.{written-line}
+use Rattle.demands.proofs.ReadsBack.{written-line, line-accepted}
 
 -- ---- what the history says
 
@@ -128,6 +130,13 @@ module _ (before later : List Made) (a : Areas) where
     first-write b line arrived taken ok =
         let h = after unpowered by-now in
         rw taken at (written-line h (told by-now) (held-as-told by-now) b 0 (text "I") line (omega arith) arrived (byI refl (sym writes-from)) taken ok)
+
+    -- And it is answered OK: a line in its format, where no program runs.
+    pub first-accepted : (b : Areas) (l : Line) → Fits l → Arrives (told by-now) (text "CW" ++ (text "I" ++ lineText l)) → told by-now .run .on ≡ false
+        → isTaken (seen by-now (ending b)) ≡ true
+        → reply (seen by-now (ending b)) ≡ ended (text "OK")
+    first-accepted b l fits arrived off taken =
+        line-accepted by-now b 0 (omega arith) (text "I") l fits arrived (byI refl (sym writes-from)) off taken
 
     -- "D is E004", whatever stands behind it
     pub no-write-before : (b : Areas) (more : List ℕ) → let command = text "CW" ++ (text "D" ++ more) in

@@ -32,7 +32,7 @@ wrote k cs =
     else if eqb k 209 then writesParameter (got 0 (dIn cs))
     else gives (got 0 (dIn cs))
 
--- the characters cs, where the last addresses plus one are these
+-- the characters cs, where I means these addresses, in a read and in a write
 abbrev pub spoken : ℕ → ℕ → List ℕ → Said
 spoken nextRead nextWrite cs =
     if isRead cs then reads (got 0 (addressIn nextRead cs))

@@ -97,18 +97,20 @@ wire =
     -- and after errors of every check, of a Bad line too: all that can come before a first accepted write (209 then is 0, in reach)
     ∷ point (
     eachItsOwn
-    ∷ "CR^XR001^CR217^CR0011^CRI0^CRD0^CR003^CRI^" ⇒ "E001^E002^E004^E002^E002^E004^E024^N1^"
-    ∷ "CW^XW001N4^CW201^CW001^CW001X^CWI^CWIX^CWD^" ⇒ "E001^E002^E004^E002^E003^E002^E003^E004^"
+    ∷ "CR^XR001^XRD^CR217^CR0011^CRI0^CRD0^CR003^" ⇒ "E001^E002^E002^E004^E002^E002^E004^E024^"
+    ∷ "CRDYYYYYYYYYYYYYYYYYYYYYYYYYYYYY^CRDYYYYYYYYYYYYYYYYYYYYYYYYYYYYYY^CRI^" ⇒ "E004^E002^N1^"
+    ∷ "CW^XW001N4^XWDN4^CW201^CW001^CW001X^CWI^CWIX^CWD^" ⇒ "E001^E002^E002^E004^E002^E003^E002^E003^E004^"
+    ∷ "CWDYYYYYYYYYYYYYYYYYYYYYYYYYYYYY^CWDYYYYYYYYYYYYYYYYYYYYYYYYYYYYYY^" ⇒ "E004^E002^"
     ∷ "CW210009^CW210004^CW210002^CWIN4^CR000^CR001^" ⇒ "E003^E021^E022^OK^N4^N2^"
     ∷ []
     )
     ∷ point (alters program 0 (eight 0x53 1 0 0 0 0 0 1) ∷ "CRI^CRI^CRD^CWIN1^CRI^CRD^" ⇒ "E024^E024^E004^OK^N1^E004^" ∷ [])
     ∷ point (alters program 0 (eight 0x53 0 0 0 0 1 0 9) ∷ "!CWIN4^CWDN4^CW210003^!CWIN4^CR000^CR001^" ⇒ "E005^E004^E020^OK^N4^S00000000000000^" ∷ [])
-    -- and so at every power-on, after one that was refused too
+    -- and so at every power-on: while a program runs, in the middle of a command, after one that was refused
     ∷ point (
-    "CR100^CW100N1^" ⇒ "S00000000000000^OK^"
+    "CR100^CW000S00000000000009^!CR1" ⇒ "S00000000000000^OK^"
     ∷ try powerOn (lent 1600 1600 24 0) 0
-    ∷ "CRD^CWDN1^CWIN1^CRI^CRD^CWIN2^CRI^" ⇒ "E004^E004^OK^N1^E004^OK^N2^"
+    ∷ "^CRD^CWDN1^CWIN1^CRI^CRD^CWIN2^CRI^" ⇒ "E001^E004^E004^OK^N1^E004^OK^N2^"
     ∷ try powerOn (lent 1600 1600 23 0) 31
     ∷ try powerOn (lent 1600 1600 24 0) 0
     ∷ "CRD^CWDN1^CWIN3^CRI^CRD^" ⇒ "E004^E004^OK^N3^E004^"

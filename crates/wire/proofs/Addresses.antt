@@ -1,4 +1,4 @@
--- Laws of addresses: a named address is found, and none lies outside 000-216.
+-- Laws of addresses: where none is named it is E004, a named one is found, and none lies outside 000-216.
 -- Assumes nothing.
 use mathlib.Core.Path.{_≡_, refl, sym, ap, _∙_}
 use mathlib.Core.Logic.{inl, inr}
@@ -24,6 +24,28 @@ digit-no-letter v lt =
     let e = below (λ v. not (eqb (digitChar v) (code "I")) && not (eqb (digitChar v) (code "D"))) 10 refl v lt in
     let p = both-true (not (eqb (digitChar v) (code "I"))) (not (eqb (digitChar v) (code "D"))) e in
     (not-true _ (p .0), not-true _ (p .1))
+
+-- 02, item 7: from before 000, where `next` is 000, D names none; nor does it from 000.
+pub none-before : (next : ℕ) → next ≤ 1 → NamesNone next (text "D")
+unfolding text
+none-before next few k le (byDigits d) = let n : _≡_ {A = ℕ} 1 3 = ap length d ∙ length-shown 10 3 k in omega arith
+none-before next few k le (byI i n) = let z : _≡_ {A = ℕ} 68 73 = head-eq-of-cons-eq i in omega arith
+none-before next few k le (byD d n) = omega arith
+
+-- I or D where it names none is E004, whatever stands behind it.
+module _ (x y next : ℕ) (more : List ℕ) (le : next ≤ 217) where
+  none-onward : NamesNone next (text "I") → addressIn next (x ∷ y ∷ (text "I" ++ more)) ≡ refused 4
+  unfolding addressIn text _>>_ _orElse_
+  none-onward none = rw (not-so (leb next 216) (λ e. none next (leb-true next 216 e) (byI refl refl)))
+
+  none-back : NamesNone next (text "D") → addressIn next (x ∷ y ∷ (text "D" ++ more)) ≡ refused 4
+  unfolding addressIn text _>>_ _orElse_
+  none-back none =
+      rw (not-so (leb 2 next) (λ e. let two = leb-true 2 next e in none (next - 2) (omega arith) (byD refl (omega arith))))
+
+  pub unnamed : (a : List ℕ) → IsStep a → NamesNone next a → addressIn next (x ∷ y ∷ (a ++ more)) ≡ refused 4
+  unnamed a (inl i) none = rw i (none-onward (rw i at none))
+  unnamed a (inr d) none = rw d (none-back (rw d at none))
 
 -- the characters x y, an address and more
 module _ (x y next k : ℕ) (inside : k ≤ 216) (more : List ℕ) where
@@ -61,28 +83,6 @@ module _ (x y next k : ℕ) (inside : k ≤ 216) (more : List ℕ) where
         three = le-leb 3 (suc (suc (suc (length more)))) (omega arith);
         long = refl;
       })
-
--- 02, item 7: from before 000, where `next` is 000, D names none; nor does it from 000.
-pub none-before : (next : ℕ) → next ≤ 1 → NamesNone next (text "D")
-unfolding text
-none-before next few k le (byDigits d) = let n : _≡_ {A = ℕ} 1 3 = ap length d ∙ length-shown 10 3 k in omega arith
-none-before next few k le (byI i n) = let z : _≡_ {A = ℕ} 68 73 = head-eq-of-cons-eq i in omega arith
-none-before next few k le (byD d n) = omega arith
-
--- I or D where it names none is E004, whatever stands behind it.
-module _ (x y next : ℕ) (more : List ℕ) (le : next ≤ 217) where
-  none-onward : NamesNone next (text "I") → addressIn next (x ∷ y ∷ (text "I" ++ more)) ≡ refused 4
-  unfolding addressIn text _>>_ _orElse_
-  none-onward none = rw (not-so (leb next 216) (λ e. none next (leb-true next 216 e) (byI refl refl)))
-
-  none-back : NamesNone next (text "D") → addressIn next (x ∷ y ∷ (text "D" ++ more)) ≡ refused 4
-  unfolding addressIn text _>>_ _orElse_
-  none-back none =
-      rw (not-so (leb 2 next) (λ e. let two = leb-true 2 next e in none (next - 2) (omega arith) (byD refl (omega arith))))
-
-  pub unnamed : (a : List ℕ) → IsStep a → NamesNone next a → addressIn next (x ∷ y ∷ (a ++ more)) ≡ refused 4
-  unnamed a (inl i) none = rw i (none-onward (rw i at none))
-  unnamed a (inr d) none = rw d (none-back (rw d at none))
 
 -- Every address that passes the check lies in 000-216.
 pub address-inside : (next : ℕ) (cs : List ℕ) → next ≤ 217 → Ok (λ k. k ≤ 216) (addressIn next cs)
