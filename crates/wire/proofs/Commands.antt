@@ -112,7 +112,7 @@ module _ (w : Wire) (mode : Mode) (parameter : ℕ) (short : w .overlong ≡ fal
 
 -- ---- commands that step to no address
 
--- a step is character enough for check 1, and address enough for check 2
+-- a step makes three characters, for check 1, and is an address for check 2
 step-passes : (x y : ℕ) (a more : List ℕ) → IsStep a → let cs = x ∷ y ∷ (a ++ more) in (leb 3 (length cs) ≡ true) × (hasAddress cs ≡ true)
 unfolding text
 step-passes x y a more (inl i) = rw i (le-leb 3 (length (x ∷ y ∷ 73 ∷ more)) (omega arith), refl)
