@@ -44,11 +44,13 @@ def first_steps_apart():
 @scenario
 def first_steps_after_errors():
     # "They move only on a command answered without an error": each error that can come before a first command is taken.
-    reads = (("", "E001"), ("CR", "E001"), ("XR001", "E002"), ("XRD", "E002"), ("CR21", "E002"), ("CR217", "E004"), ("CR00A", "E004"), ("CRD", "E004"), ("CRD0", "E004"),
-             ("CRI0", "E002"), ("CR0010", "E002"), ("CR003", "E024"), ("CRI" + "0" * 30, "E002"), ("CRD" + "0" * 29, "E004"), ("CRD" + "0" * 30, "E002"))
-    writes = (("CW", "E001"), ("XW001N4", "E002"), ("XWDN4", "E002"), ("CWD" + "0" * 29, "E004"), ("CWD" + "0" * 30, "E002"), ("CW217N4", "E004"), ("CW201", "E004"), ("CW21600", "E004"), ("CWD", "E004"), ("CWDN4", "E004"),
-              ("CW001", "E002"), ("CWI", "E002"), ("CWI00", "E003"), ("CWIN5", "E003"), ("CWIN12", "E002"), ("CW001N5", "E003"),
-              ("CW209256", "E003"), ("CW210000", "E003"), ("CW210009", "E003"), ("CW210002", "E022"), ("CW210004", "E021"))
+    reads = (("", "E001"), ("CR", "E001"), ("XR001", "E002"), ("XRD", "E002"), ("CR21", "E002"), ("CR217", "E004"), ("CR00A", "E004"),
+             ("CRD", "E004"), ("CRD0", "E004"), ("CRD" + "0" * 29, "E004"), ("CRD" + "0" * 30, "E002"), ("CRI0", "E002"),
+             ("CRI" + "0" * 30, "E002"), ("CR0010", "E002"), ("CR003", "E024"))
+    writes = (("CW", "E001"), ("XW001N4", "E002"), ("XWDN4", "E002"), ("CW217N4", "E004"), ("CW201", "E004"), ("CW21600", "E004"),
+              ("CWD", "E004"), ("CWDN4", "E004"), ("CWD" + "0" * 29, "E004"), ("CWD" + "0" * 30, "E002"), ("CW001", "E002"),
+              ("CWI", "E002"), ("CWI00", "E003"), ("CWIN5", "E003"), ("CWIN12", "E002"), ("CW001N5", "E003"), ("CW209256", "E003"),
+              ("CW210000", "E003"), ("CW210009", "E003"), ("CW210002", "E022"), ("CW210004", "E021"))
     for command, reply in reads:
         fresh(*OWN, BAD)
         say(command, reply)
@@ -155,8 +157,9 @@ def steps_from_the_last_address():
     # A power-on and nothing else makes them "before 000": after anything else, I and D go by the last address of their direction.
     alter(SAVED, 0, " ".join(("53000000 00000009", *OWN)))
     for between in (tick, an_event, empty, lambda: (press(1), press(1)), lambda: (press(1), press(2), press(1)), lambda: press(2),
-                    lambda: press(3, 34), lambda: say("", "E001"), lambda: say("XRD", "E002"), lambda: say("CR217", "E004"), lambda: say("CW217", "E004"),
-                    lambda: say("CW210002", "E022"), lambda: say("CW210004", "E021"), lambda: say("CW210009", "E003"), lambda: byte(32)):
+                    lambda: press(3, 34), lambda: byte(32), lambda: say("", "E001"), lambda: say("XRD", "E002"),
+                    lambda: say("CR217", "E004"), lambda: say("CW217", "E004"), lambda: say("CW210002", "E022"),
+                    lambda: say("CW210004", "E021"), lambda: say("CW210009", "E003")):
         fresh(log=36)
         asked("CR002 CW002N2", "N2 OK")
         between()

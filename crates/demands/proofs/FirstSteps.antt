@@ -5,9 +5,11 @@ use mathlib.Core.Path.{_≡_, refl, sym, ap, _∙_}
 use mathlib.Core.Logic.{inr}
 use Prim.Native.Nat.{ℕ, _≤_}
 use native.Mathlib.Omega.{arith}
-use mathlib.Core.Bool.{Bool, true, false, true≢false}
-use mathlib.Core.List.{List, [], _∷_, _++_}
+use mathlib.Core.Bool.{Bool, true, false, not, _&&_}
+use mathlib.Core.List.{List, [], _∷_, _++_, map}
 use lib.ListN.{length}
+use lib.Dec.{eqb, leb}
+use borrow.Author.Tests.{not-false}
 use Rattle.formats.specs.Checks.{text}
 use Rattle.formats.specs.Digits.{errorText}
 use Rattle.formats.proofs.Checks.{if-case, both-false}
@@ -19,19 +21,20 @@ use Rattle.lines.proofs.Lines.{Fits}
 use Rattle.texts.specs.Text.{lineText}
 use Rattle.texts.proofs.Texts.{Sent}
 use Rattle.variables.specs.Variables as Variables
-use Rattle.wire.specs.Collecting.{mostChars}
+use Rattle.wire.specs.Collecting.{mostChars, capital}
+use Rattle.wire.specs.Command.{isRead, addressIn, rest}
 use Rattle.wire.specs.Naming.{byI}
 use Rattle.wire.proofs.Addresses.{none-before}
 use Rattle.controller.specs.Controller.{Areas}
 use Rattle.controller.specs.Deeds.{ended}
 use Rattle.controller.specs.Refusals.{Call}
-use Rattle.controller.specs.Effects.{isPowerOn}
+use Rattle.controller.specs.Effects.{isEnd, isPowerOn}
 use Rattle.demands.specs.Histories.{ending, powering, Made, unpowered, next, after}
-use Rattle.demands.specs.Seen.{isTaken, reply, seen, Note, notes}
-use Rattle.demands.specs.Said.{Said, silence, reads, writesLine, writesOutputs, writesParameter, gives, isReading, isWriting}
+use Rattle.demands.specs.Seen.{isTaken, reply, seen, isError, Note, notes}
+use Rattle.demands.specs.Said.{Said, silence, got, wrote, spoken}
 use Rattle.demands.specs.Told.{Told, powered, said, nextReadThen, nextWriteThen, afterwards, tell, tellAll, told, Never}
 use Rattle.demands.specs.ReadBack.{Arrives}
-use Rattle.demands.specs.FirstSteps.{hasRead, hasWritten, Unread, Unwritten}
+use Rattle.demands.specs.FirstSteps.{isAnswered, hasRead, hasWritten, Unread, Unwritten}
 use Rattle.demands.proofs.AsTold.{held-as-told}
 use Rattle.demands.proofs.Telling.{tell-power-on, told-more}
 use Rattle.demands.proofs.Replies.{reads-as-told}
@@ -41,36 +44,35 @@ use Rattle.demands.proofs.ReadsBack.{written-line, line-accepted}
 
 -- ---- what the history says
 
--- a call that reads nothing leaves the last address read, a call that writes nothing the last one written
-unread-stays : (k : Call) (s : Said) (a : Areas) (t : Told) → isReading s ≡ false → nextReadThen k s a t ≡ t .nextRead
-unread-stays k silence a t u = refl
-unread-stays k (reads j) a t u = absurd (true≢false u)
-unread-stays k (writesLine j l) a t u = refl
-unread-stays k (writesOutputs j x) a t u = refl
-unread-stays k (writesParameter v) a t u = refl
-unread-stays k (gives n) a t u = refl
+-- a write leaves the last address read
+wrote-leaves : (c : Call) (j : ℕ) (cs : List ℕ) (a : Areas) (t : Told) → nextReadThen c (wrote j cs) a t ≡ t .nextRead
+wrote-leaves c j cs a t =
+    let P : Said → Type 0 = λ s. nextReadThen c s a t ≡ t .nextRead in
+    if-case P (leb j 200) (λ _. refl) λ _. if-case P (leb j 206) (λ _. refl) λ _. if-case P (eqb j 209) (λ _. refl) λ _. refl
 
-unwritten-stays : (k : Call) (s : Said) (a : Areas) (t : Told) → isWriting s ≡ false → nextWriteThen k s a t ≡ t .nextWrite
-unwritten-stays k silence a t u = refl
-unwritten-stays k (reads j) a t u = refl
-unwritten-stays k (writesLine j l) a t u = absurd (true≢false u)
-unwritten-stays k (writesOutputs j x) a t u = absurd (true≢false u)
-unwritten-stays k (writesParameter v) a t u = absurd (true≢false u)
-unwritten-stays k (gives n) a t u = absurd (true≢false u)
+-- what no command answered without an error moves, stays: here `next` is what I means in one direction, after what was said
+module _ (t : Told) (n : Note) (next : Said → ℕ) (still : next silence ≡ 0) where
+  heard-still : isTaken (n .seen) ≡ true → (isAnswered n ≡ true → next (spoken (t .nextRead) (t .nextWrite) (map capital (t .received))) ≡ 0)
+      → next (said t n) ≡ 0
+  unfolding said
+  heard-still ok moved = if-case (λ s. next s ≡ 0) (isEnd (n .call) && not (isError (reply (n .seen)))) (λ e. moved (rw (ok, e))) λ _. still
 
 read-kept : (t : Told) (n : Note) → hasRead t n ≡ false → t .nextRead ≡ 0 → tell t n .nextRead ≡ 0
 unfolding tell afterwards
 read-kept t n u e =
     if-case (λ (x : Told). x .nextRead ≡ 0) (isPowerOn (n .call)) (λ _. refl) λ _.
     if-case (λ (x : Told). x .nextRead ≡ 0) (isTaken (n .seen))
-    (λ ok. unread-stays (n .call) (said t n) (n .lent) t (both-false _ _ ok u) ∙ e) λ _. e
+    (λ ok. heard-still t n (λ s. nextReadThen (n .call) s (n .lent) t) e ok λ ans.
+    let cs = map capital (t .received) in
+    rw (both-false _ _ ans u) (wrote-leaves (n .call) (got 0 (addressIn (t .nextWrite) cs)) (rest cs) (n .lent) t ∙ e)) λ _. e
 
 write-kept : (t : Told) (n : Note) → hasWritten t n ≡ false → t .nextWrite ≡ 0 → tell t n .nextWrite ≡ 0
 unfolding tell afterwards
 write-kept t n u e =
     if-case (λ (x : Told). x .nextWrite ≡ 0) (isPowerOn (n .call)) (λ _. refl) λ _.
     if-case (λ (x : Told). x .nextWrite ≡ 0) (isTaken (n .seen))
-    (λ ok. unwritten-stays (n .call) (said t n) (n .lent) t (both-false _ _ ok u) ∙ e) λ _. e
+    (λ ok. heard-still t n (λ s. nextWriteThen (n .call) s (n .lent) t) e ok λ ans.
+    rw (not-false (isRead (map capital (t .received))) (both-false _ _ ans u)) e) λ _. e
 
 -- of either direction: what one call keeps is kept by all
 module _ (direction : Told → ℕ) (moves : Told → Note → Bool)

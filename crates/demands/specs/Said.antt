@@ -56,23 +56,6 @@ isOutputs (writesOutputs j x) = true
 isOutputs (writesParameter v) = false
 isOutputs (gives n) = false
 
--- a read; a write
-abbrev pub isReading : Said → Bool
-isReading silence = false
-isReading (reads j) = true
-isReading (writesLine j l) = false
-isReading (writesOutputs j x) = false
-isReading (writesParameter v) = false
-isReading (gives n) = false
-
-abbrev pub isWriting : Said → Bool
-isWriting silence = false
-isWriting (reads j) = false
-isWriting (writesLine j l) = true
-isWriting (writesOutputs j x) = true
-isWriting (writesParameter v) = true
-isWriting (gives n) = true
-
 -- a read of 212
 abbrev pub readsEvent : Said → Bool
 readsEvent silence = false

@@ -9,17 +9,17 @@ use mathlib.Core.List.{List}
 use lib.ListN.{length}
 use lib.Dec.{leb}
 use borrow.Author.Tests.{eq-eqb, ne-eqb, lt-ltb, le-ltb, le-leb, lt-leb, leb-true, leb-false}
-use Rattle.formats.specs.Checks.{refused, passed}
+use Rattle.formats.specs.Checks.{refused, passed, _>>_, _orElse_}
 use Rattle.lines.specs.Line.{isBad}
 use Rattle.lines.specs.Program.{lineAt}
 use Rattle.duration.specs.declared.nesting.Walk.{Walk}
 use Rattle.duration.specs.declared.sums.Sum.{Sum}
-use Rattle.duration.specs.declared.Answer.the-variants.{Takes, Refused}
+use Rattle.duration.specs.declared.Answer.the-variants.{Refused}
 use Rattle.duration.specs.Loops.{endLine, isTangled, endsInside}
 use Rattle.duration.specs.Ticks.{runTicks, idlesAt, idles, hasBad}
 use Rattle.duration.specs.Report.{mostTicks, report, answerOf}
 use Rattle.duration.specs.Walk.{isAcrossOne, Walked}
-use Rattle.duration.specs.Summing.{capped, sumOf, Nests}
+use Rattle.duration.specs.Summing.{capped, sumOf, toldOf, Nests}
 use Rattle.duration.proofs.Order.{Before, at-first, one-more, told-at, told-well}
 use Rattle.duration.proofs.Faults.{inside-is}
 use Rattle.duration.proofs.FirstEnd.{end-within, end-is}
@@ -30,6 +30,26 @@ use Rattle.duration.proofs.Summing.{in-all}
 -- the answer of a refusal
 refusing : (p : List ℕ) (n : ℕ) → report p ≡ refused n → Refused n ≡ answerOf (report p)
 refusing p n is = sym (ap answerOf is)
+
+-- what is told of a sum, test by test
+module _ (s : Sum) where
+  pub idle-told : s .idle ≡ true → toldOf s ≡ refused 44
+  unfolding toldOf _>>_ _orElse_
+  idle-told idle = rw idle
+
+  module _ (moves : s .idle ≡ false) where
+    pub bad-told : s .bad ≡ true → toldOf s ≡ refused 14
+    unfolding toldOf _>>_ _orElse_
+    bad-told bad = rw (moves, bad)
+
+    module _ (good : s .bad ≡ false) where
+      pub over-told : mostTicks < s .ticks → toldOf s ≡ refused 43
+      unfolding toldOf _>>_ _orElse_
+      over-told more = rw (moves, good, lt-leb (s .ticks) mostTicks more)
+
+      pub ticks-told : s .ticks ≤ mostTicks → toldOf s ≡ passed (s .ticks)
+      unfolding toldOf _>>_ _orElse_
+      ticks-told few = rw (moves, good, le-leb (s .ticks) mostTicks few)
 
 pub no-program : (p : List ℕ) → length p ≢ 1600 → Refused 30 ≡ answerOf (report p)
 no-program p ne = refusing p 30 (told-at p (endLine p) refl 0 (omega arith) (at-first p (endLine p)) (ne-eqb (length p) 1600 ne))
@@ -86,25 +106,24 @@ module _ (p : List ℕ) (size : length p ≡ 1600) (e : ℕ) (is : e ≡ endLine
               unfolding sumOf
               ticks-by = ap (λ (x : Sum). x .ticks) sum
 
-              pub idle-loop : s .idle ≡ true → Refused 44 ≡ answerOf (report p)
-              idle-loop found = refusing p 44 (told-at p e is 4 (omega arith) before-044 (ap not (sym idle-by ∙ found)))
+              idle-loop : s .idle ≡ true → report p ≡ refused 44
+              idle-loop found = told-at p e is 4 (omega arith) before-044 (ap not (sym idle-by ∙ found))
 
               module _ (moves : s .idle ≡ false) where
                 before-014 : Before p e 5
                 before-014 = one-more p e 4 (ap not (sym idle-by ∙ moves)) before-044
 
-                pub bad-line : s .bad ≡ true → Refused 14 ≡ answerOf (report p)
-                bad-line found = refusing p 14 (told-at p e is 5 (omega arith) before-014 (ap not (sym bad-by ∙ found)))
+                bad-line : s .bad ≡ true → report p ≡ refused 14
+                bad-line found = told-at p e is 5 (omega arith) before-014 (ap not (sym bad-by ∙ found))
 
                 module _ (good : s .bad ≡ false) where
                   before-043 : Before p e 6
                   before-043 = one-more p e 5 (ap not (sym bad-by ∙ good)) before-014
 
-                  pub too-many : mostTicks < s .ticks → Refused 43 ≡ answerOf (report p)
+                  too-many : mostTicks < s .ticks → report p ≡ refused 43
                   too-many more =
-                      refusing p 43
-                      (told-at p e is 6 (omega arith) before-043
-                      (lt-leb (runTicks p 0 e) mostTicks (above (runTicks p 0 e) (rw ticks-by at more))))
+                      told-at p e is 6 (omega arith) before-043
+                      (lt-leb (runTicks p 0 e) mostTicks (above (runTicks p 0 e) (rw ticks-by at more)))
                     where
                       above : (n : ℕ) → mostTicks < capped n → mostTicks < n
                       above n lt = go (leb n mostTicks) refl
@@ -115,10 +134,10 @@ module _ (p : List ℕ) (size : length p ≡ 1600) (e : ℕ) (is : e ≡ endLine
                               absurd (omega (arith, z, leb-true n mostTicks le, lt))
                           go false gt = leb-false n mostTicks gt
 
-                  pub told : s .ticks ≤ mostTicks → Takes (s .ticks) ≡ answerOf (report p)
-                  told le =
+                  few-enough : s .ticks ≤ mostTicks → report p ≡ passed (s .ticks)
+                  few-enough le =
                       let n : runTicks p 0 e ≡ s .ticks = small (runTicks p 0 e) (rw ticks-by at le) ∙ sym ticks-by in
-                      sym (ap answerOf (told-well p e is (one-more p e 6 (le-leb (runTicks p 0 e) mostTicks (rw n le)) before-043) ∙ ap passed n))
+                      told-well p e is (one-more p e 6 (le-leb (runTicks p 0 e) mostTicks (rw n le)) before-043) ∙ ap passed n
                     where
                       small : (n : ℕ) → capped n ≤ mostTicks → n ≡ capped n
                       small n lt = go (leb n mostTicks) refl
@@ -126,3 +145,15 @@ module _ (p : List ℕ) (size : length p ≡ 1600) (e : ℕ) (is : e ≡ endLine
                           go : (t : Bool) → leb n mostTicks ≡ t → n ≡ capped n
                           go true le = sym (capped-small mostTicks n (omega (arith, leb-true n mostTicks le)))
                           go false gt = let z = capped-large mostTicks n (omega (arith, leb-false n mostTicks gt)) in absurd (omega (arith, z, lt))
+
+              -- what is told of the sum is the report's answer
+              told-by : (i b l : Bool) → s .idle ≡ i → s .bad ≡ b → leb (s .ticks) mostTicks ≡ l → toldOf s ≡ report p
+              told-by true b l idle bad le = idle-told s idle ∙ sym (idle-loop idle)
+              told-by false true l idle bad le = bad-told s idle bad ∙ sym (bad-line idle bad)
+              told-by false false true idle bad le =
+                  let few = leb-true (s .ticks) mostTicks le in ticks-told s idle bad few ∙ sym (few-enough idle bad few)
+              told-by false false false idle bad le =
+                  let more = leb-false (s .ticks) mostTicks le in over-told s idle bad more ∙ sym (too-many idle bad more)
+
+              pub sum-told : toldOf s ≡ report p
+              sum-told = told-by (s .idle) (s .bad) (leb (s .ticks) mostTicks) refl refl refl

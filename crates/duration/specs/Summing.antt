@@ -1,8 +1,9 @@
 -- How the code sums: ticks up to one more than are told, and whether an idle loop or a Bad line was met.
 use Prim.Native.Nat.{ℕ, _+_, _*_, _≤_, _<_}
-use mathlib.Core.Bool.{Bool, false, true, _&&_, _||_}
+use mathlib.Core.Bool.{Bool, false, true, not, _&&_, _||_}
 use mathlib.Core.List.{List}
 use lib.Dec.{ltb, leb, eqb}
+use Rattle.formats.specs.Checks.{Res, passed, _>>_, _orElse_}
 use Rattle.lines.specs.declared.Line.{Line}
 use Rattle.lines.specs.declared.Line.the-variants.{State, For, Next, Bad}
 use Rattle.lines.specs.Line.{isBad}
@@ -47,6 +48,15 @@ someIn f i j = someBefore (λ k. leb i k && f k) j
 unfoldable pub sumOf : List ℕ → ℕ → ℕ → Sum
 sumOf p i j =
     record { ticks = capped (runTicks p i j); idle = someIn (idlesAt p) i j; bad = someIn (λ k. isBad (lineAt p k)) i j }
+
+-- what is told of a program whose lines before its end have this sum, its loops being nested and ended: the last refusals of the report, or
+-- its ticks
+unfoldable pub toldOf : Sum → Res ℕ
+toldOf s = do
+  not (s .idle) orElse 44
+  not (s .bad) orElse 14
+  leb (s .ticks) mostTicks orElse 43
+  passed (s .ticks)
 
 -- the loops in a run of lines end in it, each inside those around it
 pub record Nests (p : List ℕ) (i j : ℕ) : Type 0 where

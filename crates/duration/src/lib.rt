@@ -41,16 +41,7 @@ pub fn report(p: &[u8]) -> Answer
         return Answer::Refused(41);
     }
     let sum = sums::sequence(p, 0, end as usize);
-    if sum.idle {
-        return Answer::Refused(44);
-    }
-    if sum.bad {
-        return Answer::Refused(14);
-    }
-    if MOST_TICKS < sum.ticks {
-        return Answer::Refused(43);
-    }
-    Answer::Takes(sum.ticks)
+    sum.told()
 }
 
 // ---- the grand total of programs one behind the other

@@ -4,7 +4,9 @@ ghost use mathlib.Core.Path.{_≡_};
 ghost use mathlib.Core.Bool.{_||_};
 ghost use Prim.Native.Nat.{_+_, _≤_, _<_};
 ghost use lib.ListN.{length};
-ghost use Rattle.duration.specs.Summing.{moreTicks, capped, noSum, plainSum, joined, repeated, sumOf, Nests};
+ghost use Rattle.duration.specs.Report.{answerOf};
+ghost use Rattle.duration.specs.Summing.{moreTicks, capped, noSum, plainSum, joined, repeated, sumOf, toldOf, Nests};
+use crate::Answer;
 use lines::Line;
 
 // The ticks of a run of lines, up to one more than are told, and whether an idle loop, or a Bad line, is in it.
@@ -91,6 +93,22 @@ impl Sum {
         }
         self.ticks = capped(self.ticks * count as u64);
         self
+    }
+
+    // What is told of a program with this sum up to its end: the last three refusals, or its ticks.
+    pub fn told(self) -> Answer
+        ensures answer { λ r. ⌜ r ≡ answerOf (toldOf self) ⌝ }
+    {
+        if self.idle {
+            return Answer::Refused(44);
+        }
+        if self.bad {
+            return Answer::Refused(14);
+        }
+        if crate::MOST_TICKS < self.ticks {
+            return Answer::Refused(43);
+        }
+        Answer::Takes(self.ticks)
     }
 }
 

@@ -1,7 +1,9 @@
 -- `duration::report` meets its contract: check by check, by the laws of `Answers`.
 -- Assumes nothing.
+use mathlib.Core.Path.{ap, _∙_}
 use native.Mathlib.Omega.{arith}
-use Rattle.duration.proofs.Answers.{no-program, no-end, tangled, ends-inside, nests-so, idle-loop, bad-line, too-many, told}
+use Rattle.duration.specs.Report.{answerOf}
+use Rattle.duration.proofs.Answers.{no-program, no-end, tangled, ends-inside, nests-so, sum-told}
 use borrow.Author.Needs.{needs}
 use Rattle.duration.proofs.report.Statement.{statement}
 use Rattle.duration.proofs.report.Tie as tie
@@ -52,6 +54,9 @@ sequence-requires c κs = (
       nests-so _ (if1 .left) _ (end-line .ensures .0) (if2 .left) _ (walked .ensures) (if3 .left) _ (c .before .is-across-one .ensures) (c .if4 .left),
 )
 
+told-requires : tie.Need-told-requires
+told-requires c κs = search needs
+
 returns-5 : tie.Need-returns-5
 returns-5 c =
     let if1 = c .before .before .before .before .before .before .before .before .before .if1 in
@@ -61,51 +66,10 @@ returns-5 c =
     let if3 = c .before .before .before .before .before .if3 in
     let is-across-one = c .before .before .before .is-across-one in
     let if4 = c .before .before .if4 in
-    idle-loop _ (if1 .left) _ (end-line .ensures .0) (if2 .left) _ (walked .ensures) (if3 .left) _ (is-across-one .ensures) (if4 .left) _
-    (c .before .sequence .ensures) (c .if5 .taken)
-
-returns-6 : tie.Need-returns-6
-returns-6 c =
-    let if1 = c .before .before .before .before .before .before .before .before .before .before .if1 in
-    let end-line = c .before .before .before .before .before .before .before .before .before .end-line in
-    let if2 = c .before .before .before .before .before .before .before .before .if2 in
-    let walked = c .before .before .before .before .before .before .before .walked in
-    let if3 = c .before .before .before .before .before .before .if3 in
-    let is-across-one = c .before .before .before .before .is-across-one in
-    let if4 = c .before .before .before .if4 in
-    let sequence = c .before .before .sequence in
-    bad-line _ (if1 .left) _ (end-line .ensures .0) (if2 .left) _ (walked .ensures) (if3 .left) _ (is-across-one .ensures) (if4 .left) _
-    (sequence .ensures) (c .before .if5 .left) (c .if6 .taken)
-
-returns-7 : tie.Need-returns-7
-returns-7 c =
-    let if1 = c .before .before .before .before .before .before .before .before .before .before .before .before .if1 in
-    let end-line = c .before .before .before .before .before .before .before .before .before .before .before .end-line in
-    let if2 = c .before .before .before .before .before .before .before .before .before .before .if2 in
-    let walked = c .before .before .before .before .before .before .before .before .before .walked in
-    let if3 = c .before .before .before .before .before .before .before .before .if3 in
-    let is-across-one = c .before .before .before .before .before .before .is-across-one in
-    let if4 = c .before .before .before .before .before .if4 in
-    let sequence = c .before .before .before .before .sequence in
-    let if5 = c .before .before .before .if5 in
-    let if6 = c .before .before .if6 in
-    too-many _ (if1 .left) _ (end-line .ensures .0) (if2 .left) _ (walked .ensures) (if3 .left) _ (is-across-one .ensures) (if4 .left) _
-    (sequence .ensures) (if5 .left) (if6 .left) (c .if7 .taken)
-
-returns-8 : tie.Need-returns-8
-returns-8 c =
-    let if1 = c .before .before .before .before .before .before .before .before .before .before .before .before .if1 in
-    let end-line = c .before .before .before .before .before .before .before .before .before .before .before .end-line in
-    let if2 = c .before .before .before .before .before .before .before .before .before .before .if2 in
-    let walked = c .before .before .before .before .before .before .before .before .before .walked in
-    let if3 = c .before .before .before .before .before .before .before .before .if3 in
-    let is-across-one = c .before .before .before .before .before .before .is-across-one in
-    let if4 = c .before .before .before .before .before .if4 in
-    let sequence = c .before .before .before .before .sequence in
-    let if5 = c .before .before .before .if5 in
-    let if6 = c .before .before .if6 in
-    told _ (if1 .left) _ (end-line .ensures .0) (if2 .left) _ (walked .ensures) (if3 .left) _ (is-across-one .ensures) (if4 .left) _
-    (sequence .ensures) (if5 .left) (if6 .left) (c .if7 .left)
+    c .told .ensures
+    ∙ ap answerOf
+    (sum-told _ (if1 .left) _ (end-line .ensures .0) (if2 .left) _ (walked .ensures) (if3 .left) _ (is-across-one .ensures) (if4 .left) _
+    (c .before .sequence .ensures))
 
 pub report-spec : {M : Type 1} → statement M
 report-spec =
@@ -120,7 +84,5 @@ report-spec =
     returns-4
     cast-sequence
     sequence-requires
-    returns-5
-    returns-6
-    returns-7
-    returns-8)
+    told-requires
+    returns-5)
