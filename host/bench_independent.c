@@ -12,7 +12,7 @@
 #include <string.h>
 #include <unistd.h>
 
-enum { PROGRAM = 1600, LOG = 24, REPLY = 16, BLOCK = 4096 };
+enum { PROGRAM = 1600, LOG = BOX_LOG_LEAST, REPLY = 16, BLOCK = 4096 };
 
 static uint8_t program[PROGRAM], saved[PROGRAM], log_area[LOG];
 

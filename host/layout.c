@@ -2,51 +2,16 @@
  * it, but drives the library by its calls until each field must have a value of its own by document 01, and looks for it at the
  * header's place. Where 01 and the header say nothing of a field (a stopped program's wait, a free counter's line, characters
  * behind the length), it is only seen that power-on sets it. The tick count's end (033) is out of reach here. */
+#include "layout_numbers.h"
 #include "nizhalepu.h"
 
 #include <stdio.h>
 #include <stdlib.h>
 #include <string.h>
 
-/* ---- the layout in numbers */
-
-#define AT(field, offset, size)                                                                                       \
-    _Static_assert(offsetof(struct nizhalepu_record, field) == (offset), #field);                                     \
-    _Static_assert(sizeof(((struct nizhalepu_record *)0)->field) == (size), #field)
-
-_Static_assert(sizeof(struct nizhalepu_record) == 120, "the record");
-_Static_assert(sizeof(struct nizhalepu_counter) == 4, "a counter");
-_Static_assert(sizeof(bool) == 1 && sizeof(size_t) == 8, "the machine");
-AT(run.on, 0, 1);
-AT(run.line, 1, 1);
-AT(run.wait, 2, 2);
-AT(run.outputs, 4, 4);
-AT(run.counters, 8, 16);
-AT(paused, 24, 1);
-AT(ticks, 28, 4);
-AT(panel.single, 32, 8);
-AT(panel.parameter, 40, 1);
-AT(panel.special, 41, 1);
-AT(panel.event, 42, 1);
-AT(panel.unread, 43, 1);
-AT(log.length, 48, 8);
-AT(log.kept, 56, 8);
-AT(log.lost, 64, 4);
-AT(wire.chars, 72, 32);
-AT(wire.len, 104, 8);
-AT(wire.overlong, 112, 1);
-AT(wire.nextread, 113, 1);
-AT(wire.nextwrite, 114, 1);
-_Static_assert(offsetof(struct nizhalepu_counter, count) == 0 && offsetof(struct nizhalepu_counter, line) == 2, "a counter");
-_Static_assert(sizeof(struct nizhalepu_said) == 16, "what a call says");
-_Static_assert(offsetof(struct nizhalepu_said, refusal) == 0 && offsetof(struct nizhalepu_said, lines) == 2, "what a call says");
-_Static_assert(offsetof(struct nizhalepu_said, written) == 8, "what a call says");
-_Static_assert(sizeof(struct nizhalepu_duration) == 16 && sizeof(((struct nizhalepu_duration *)0)->ticks) == 8, "a duration");
-_Static_assert(offsetof(struct nizhalepu_duration, refusal) == 0 && offsetof(struct nizhalepu_duration, ticks) == 8, "a duration");
-
 /* ---- the box of the test: the record between bytes that no call may touch */
 
-enum { GUARD = 256, GUARD_BYTE = 0xC3, LOG = 43981 }; /* R = 3665 */
+enum { GUARD = 256, GUARD_BYTE = 0xC3, LOG = 43981, R = LOG / NIZHALEPU_LOG_RECORD };
 
 static struct {
     uint8_t before[GUARD];
@@ -173,6 +138,7 @@ static void check_record(const char *name) {
     check("log.length", record->log.length, want.log.length);
     check("log.kept", record->log.kept, want.log.kept);
     check("log.lost", record->log.lost, want.log.lost);
+    check("log.first", record->log.first, want.log.first);
     check_guards();
 }
 
@@ -309,22 +275,46 @@ static void test_wire(void) {
     check_record("a byte from 128 on is no letter");
 }
 
-/* More changes than places: R - 1 kept, the rest lost, all told by emptying. */
+static void changes(unsigned count) {
+    while (count-- > 0)
+        command(box.record.run.outputs == 0x55 ? "CW206AA" : "CW20655", "OK", 0);
+}
+
+static void check_place(const char *name, const uint8_t *place, const char *bytes) {
+    moment = name;
+    for (size_t i = 0; i < NIZHALEPU_LOG_RECORD; i++)
+        check("a byte of a record", place[i], (uint8_t)bytes[i]);
+}
+
+/* More changes than places: R - 1 kept, the rest lost, all told by emptying. The first lost change is made at a tick of which each byte
+ * is another, and that tick stays while later ones are lost. The caller alters the gap in between, which tells the library nothing. */
 static void test_log(void) {
     power_on(0x55);
     want_power_on();
-    for (unsigned i = 0; i < 3664 + 70000; i++)
-        command(i % 2 == 0 ? "CW20655" : "CW206AA", "OK", 0);
-    want.run.outputs = 0xAA;
+    changes(R - 1);
+    ticks(0x01020304);
+    changes(1);
+    want.run.outputs = R % 2 == 0 ? 0xAA : 0x55;
+    want.ticks = want.log.first = 0x01020304;
     want.wire.nextwrite = 207;
-    want.log.kept = 3664;
-    want.log.lost = 70000;
+    want.log.kept = R - 1;
+    want.log.lost = 1;
     check_record("the log full");
+    ticks(2);
+    memset(log_area + (R - 1) * NIZHALEPU_LOG_RECORD, 0x77, NIZHALEPU_LOG_RECORD);
+    changes(70000 - 1); /* an odd number */
+    want.run.outputs ^= 0xFF;
+    want.ticks += 2;
+    want.log.lost = 70000;
+    check_record("70,000 changes lost");
     check("log.lost as a number", box.record.log.lost, 70000); /* not by way of a field that may be too narrow */
+    check("log.first as a number", box.record.log.first, 0x01020304);
     moment = "emptying";
-    check_said(nizhalepu_empty(&box.record, log_area, LOG, destination, sizeof destination), 0, 0, 3665 * 12);
-    want.log.kept = 0;
-    want.log.lost = 0;
+    check_said(nizhalepu_empty(&box.record, log_area, LOG, destination, sizeof destination), 0, 0, R * NIZHALEPU_LOG_RECORD);
+    check_place("the first change", destination, "\x1E\xE2\x01\xFF\0\0\0\0\0\0\0\x55\0\0\0\0");
+    check_place("the second change", destination + 16, "\x1E\xE2\x01\xFF\0\0\0\0\0\0\0\xAA\0\0\0\x55");
+    check_place("the gap", destination + (R - 1) * 16, "\x1E\xE2\x02\0\x01\x02\x03\x04\0\x01\x11\x70\0\0\0\x55");
+    want.log.kept = want.log.lost = want.log.first = 0;
     check_record("the log emptied");
 }
 
@@ -354,9 +344,9 @@ static void test_said_and_ticks(void) {
     check_record("refused calls");
     command("CW20601", "OK", 0);
     moment = "a short destination";
-    check_said(nizhalepu_empty(&box.record, log_area, LOG, destination, 11), 35, 0, 0);
+    check_said(nizhalepu_empty(&box.record, log_area, LOG, destination, 15), 35, 0, 0);
     moment = "a refused power-on";
-    check_said(nizhalepu_power_on(&box.record, program, 1600, saved, 1600, log_area, 23), 31, 0, 0);
+    check_said(nizhalepu_power_on(&box.record, program, 1600, saved, 1600, log_area, 31), 31, 0, 0);
     want_power_on();
     want.log.length = 0;
     check_record("a refused power-on");

@@ -3,8 +3,8 @@
  * Link with target/staticlib/libnizhalepu.a (x86-64), which `rt staticlib nizhalepu` proves and makes; all
  * that it may need of a C library is memcpy. The rules are those of document 01 and of document 02, items 1 (the
  * log as text), 2 (a loop of none), 3 (why a special command was not taken), 4 (a bad stored line), 5 (less
- * stack) and 6 (how long a program takes); the Rattle source of these calls, with their contracts, is
- * crates/nizhalepu/src/lib.rt.
+ * stack), 6 (how long a program takes), 7 (the first increment) and 8 (what a gap tells); the Rattle source of
+ * these calls, with their contracts, is crates/nizhalepu/src/lib.rt.
  *
  * Who owns what. The caller owns the record and every area. The library keeps no pointer, allocates
  * nothing, has no data of its own but constants and calls nothing back; each call ends.
@@ -37,20 +37,34 @@ extern "C" {
 
 enum {
     NIZHALEPU_PROGRAM = 1600,    /* the program area and the saved copy: 200 lines of 8, exactly */
-    NIZHALEPU_LOG_LEAST = 24,    /* the log area, and as at power-on ever after */
+    NIZHALEPU_LOG_LEAST = 32,    /* the log area, and as at power-on ever after */
     NIZHALEPU_LOG_MOST = 65536,
-    NIZHALEPU_LOG_RECORD = 12,   /* one record of the log */
+    NIZHALEPU_LOG_RECORD = 16,   /* one record of the log */
     NIZHALEPU_REPLY = 16,        /* the reply area, at least; the longest reply fills it */
-    NIZHALEPU_LIST_MOST = 65532, /* a log that is listed: 5,461 records, the most that one emptying gives */
-    NIZHALEPU_TEXT = 141986      /* the text area, at least: 5,461 lines of at most 26 bytes */
+    NIZHALEPU_LIST_MOST = 65536, /* a log that is listed: 4,096 records of 16 bytes, or of the older mark 5,461 of 12 */
+    NIZHALEPU_TEXT = 143360      /* the text area, at least: 4,096 lines of at most 35 bytes; 5,461 of at most 26 are fewer */
 };
+
+/* ---- a record of the log: 16 bytes, numbers and words high byte first. The area has R places, its length divided by 16.
+ *
+ *   bytes   a change                                    a gap, in the last place from the R-th change since emptying on
+ *   0-1     the mark 1E E2                              the mark 1E E2
+ *   2       the kind, 1                                 the kind, 2
+ *   3       the cause: the line, 254 for command 006,   0
+ *           255 for a write to 203-206
+ *   4-7     the tick count                              the tick count at the first lost change
+ *   8-11    the output word after the change            how many are lost; FFFFFFFF means that many or more
+ *   12-15   the output word before the change           the output word after the last lost change
+ *
+ * Records of the older mark 1E E1 had 12 bytes: they lacked the last word, and a gap's tick was that of the last
+ * lost change. The library writes them no more; nizhalepu_list still reads logs of them. */
 
 /* ---- refusals: the number that a call gives, 0 where it is accepted; checked in this order */
 
 enum {
     NIZHALEPU_ACCEPTED = 0,
     NIZHALEPU_BAD_PROGRAM = 30,     /* program area or saved copy is not exactly 1,600 bytes */
-    NIZHALEPU_BAD_LOG = 31,         /* log area under 24 or over 65,536 bytes, or not the length given at power-on */
+    NIZHALEPU_BAD_LOG = 31,         /* log area under 32 or over 65,536 bytes, or not the length given at power-on */
     NIZHALEPU_SHORT_REPLY = 32,     /* reply area under 16 bytes */
     NIZHALEPU_LAST_TICK = 33,       /* the tick count is already 4,294,967,295 */
     NIZHALEPU_BAD_BUTTON = 34,      /* button number other than 1 or 2 */
@@ -125,6 +139,7 @@ struct nizhalepu_log {
     size_t length;      /* of the area, as given at power-on */
     size_t kept;        /* changes that have a record of their own */
     uint32_t lost;      /* changes that a gap counts */
+    uint32_t first;     /* the tick of the first lost change; of no meaning while none is lost */
 };
 
 struct nizhalepu_record {
@@ -176,12 +191,16 @@ struct nizhalepu_said nizhalepu_empty(struct nizhalepu_record *record,
                                       const uint8_t *log, size_t log_length,
                                       uint8_t *destination, size_t destination_length);
 
-/* ---- the emptied log as text. It needs no record; the log may be any bytes, of any number.
+/* ---- the emptied log as text. It needs no record; the log may be any bytes, of any number. It is read by the mark
+ * of its first record: 1E E2 means records of 16 bytes, the older 1E E1 records of 12.
  *
  * Each record is one line: tick, kind and cause in decimal, the value in eight capital hex digits (in a gap
- * FFFFFFFF means that many or more), a space between them and LF (10) behind. A log that no box can have written between two emptyings has the text
- * of its refusal alone, E, three digits and LF, the first that applies: E056 more than NIZHALEPU_LIST_MOST
- * bytes, E050 no whole number of records; then record by record E051 wrong mark, E052 impossible record.
+ * FFFFFFFF means that many or more), and of a record of 16 bytes its last word in eight more; a space between them
+ * and LF (10) behind. A log that no box can have written between two emptyings has the text of its refusal
+ * alone, E, three digits and LF, the first that applies: E056 more than NIZHALEPU_LIST_MOST bytes, or more than
+ * 65,532 under the older mark; E050 no whole number of records; then record by record E053 mixed marks (one of
+ * the two, but not the first record's), E051 wrong mark, E052 impossible record. Where the first mark is neither,
+ * E056 and E050 go by records of 16 bytes, and the first record is E051.
  *
  * Answers the length of the text, which stands at the start of the text area; the rest of the area stays.
  * An area shorter than NIZHALEPU_TEXT gets nothing, and the answer is 0, as for an empty log: lend one that

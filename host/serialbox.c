@@ -21,8 +21,9 @@ static const char usage[] =
     "The box on a pseudo-terminal, whose name is printed on standard output. Messages go to standard error.\n"
     "\n"
     "  --saved FILE      keeps the saved copy, 1600 bytes (serialbox.saved); a missing file is all zero\n"
-    "  --log FILE        takes the emptied log, appended (serialbox.log)\n"
-    "  --log-area BYTES  length of the log area, 24 to 65536 (65536)\n"
+    "  --log FILE        takes the emptied log, appended (serialbox.log): a new file, or one of whole records of 16\n"
+    "                    bytes that begins with their mark 1E E2; any other is refused and left as it is\n"
+    "  --log-area BYTES  length of the log area, 32 to 65536 (65536)\n"
     "  --link PATH       a symbolic link to the pseudo-terminal, removed at the end; an older link is replaced\n"
     "  --help            this text\n"
     "\n"
@@ -302,11 +303,11 @@ static size_t read_log_area(const char *text) {
     size_t number = 0;
     for (const char *c = text; *c != 0; c++) {
         if (*c < '0' || *c > '9' || number > NIZHALEPU_LOG_MOST)
-            stop_with_usage("the log area is a number of bytes, 24 to 65536");
+            stop_with_usage("the log area is a number of bytes, 32 to 65536");
         number = number * 10 + (size_t)(*c - '0');
     }
     if (number < NIZHALEPU_LOG_LEAST || number > NIZHALEPU_LOG_MOST)
-        stop_with_usage("the log area is a number of bytes, 24 to 65536");
+        stop_with_usage("the log area is a number of bytes, 32 to 65536");
     return number;
 }
 

@@ -32,7 +32,8 @@ struct log_file {
     int descriptor;
 };
 
-/* Opens the log file for records of `record` bytes each, for this box alone: a regular file of whole records. */
+/* Opens the log file for records of `record` bytes each, for this box alone: a regular file of whole records under the mark 1E E2, or
+ * an empty one. Any other is left as it is: a list of it goes by its first mark, so nothing appended to it could be read. */
 bool log_open(struct log_file *file, const char *path, size_t record);
 
 /* Appends what an emptying gave. Where that fails, the file is cut back to what it held and the bytes are shown on standard

@@ -172,13 +172,41 @@ bool saved_write(struct saved_file *file, const uint8_t *saved, size_t length) {
 
 /* ---- the log */
 
-/* Opened without waiting, so that a pipe that nobody reads is an error like any other file that cannot keep records. Its length is
- * looked at when no other box can be writing to it. */
-bool log_open(struct log_file *file, const char *path, size_t record) {
+enum { MARK = 0x1EE2, OLDER_MARK = 0x1EE1 }; /* document 02, item 8: of records of 16 bytes, and of 12 as they were before */
+
+static bool left_as_it_is(const char *path, const char *why) {
+    fprintf(stderr, "serialbox: the log file %s %s; it is left as it is\n", path, why);
+    return false;
+}
+
+/* True if records can be appended: the file is empty, or has whole ones with the mark in front. */
+static bool takes_records(const struct log_file *file) {
     struct stat status;
+    uint8_t mark[2] = {0, 0};
+    if (fstat(file->descriptor, &status) != 0 || !S_ISREG(status.st_mode))
+        return left_as_it_is(file->path, "is no regular file");
+    if (status.st_size == 0)
+        return true;
+    if (pread(file->descriptor, mark, sizeof mark, 0) < 0) {
+        say_failed("cannot read the log file", file->path);
+        return false;
+    }
+    if ((mark[0] << 8 | mark[1]) == OLDER_MARK)
+        return left_as_it_is(file->path, "has records of the older mark 1E E1, of 12 bytes, and this box appends records of 16 bytes "
+                                         "under the mark 1E E2: move it away, or name another by --log");
+    if ((mark[0] << 8 | mark[1]) != MARK)
+        return left_as_it_is(file->path, "does not begin with 1E E2, the mark of a record");
+    if ((size_t)status.st_size % file->record != 0)
+        return left_as_it_is(file->path, "is not a whole number of records of 16 bytes long");
+    return true;
+}
+
+/* Opened without waiting, so that a pipe that nobody reads is an error like any other file that cannot keep records. It is looked at
+ * when no other box can be writing to it. */
+bool log_open(struct log_file *file, const char *path, size_t record) {
     file->path = path;
     file->record = record;
-    file->descriptor = open(path, O_WRONLY | O_APPEND | O_CREAT | O_NONBLOCK | O_CLOEXEC, 0666);
+    file->descriptor = open(path, O_RDWR | O_APPEND | O_CREAT | O_NONBLOCK | O_NOCTTY | O_CLOEXEC, 0666);
     if (file->descriptor < 0) {
         say_failed("cannot open the log file", path);
         return false;
@@ -187,10 +215,8 @@ bool log_open(struct log_file *file, const char *path, size_t record) {
         say_failed("another box may be using the log file", path);
         return false;
     }
-    if (fstat(file->descriptor, &status) != 0 || !S_ISREG(status.st_mode) || (size_t)status.st_size % record != 0) {
-        fprintf(stderr, "serialbox: the log file %s is no file of whole records of %zu bytes; it is left as it is\n", path, record);
+    if (!takes_records(file))
         return false;
-    }
     char *folder = folder_of(path); /* the file may be new */
     bool done = folder != NULL && sync_folder(folder);
     if (!done)

@@ -22,7 +22,7 @@ static struct {
 } buffer[BUFFERS] = {
     {program, sizeof program, 1600},
     {saved, sizeof saved, 1600},
-    {log_area, sizeof log_area, 24},
+    {log_area, sizeof log_area, BOX_LOG_LEAST},
     {out, sizeof out, 16},
 };
 

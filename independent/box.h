@@ -5,6 +5,12 @@
 #include <stddef.h>
 #include <stdint.h>
 
+enum { /* bytes of the log area and of a record in it (02, item 8) */
+    BOX_LOG_RECORD = 16,
+    BOX_LOG_LEAST = 2 * BOX_LOG_RECORD,
+    BOX_LOG_MOST = 65536
+};
+
 struct box; /* its own state; box_size() bytes, aligned to 16 */
 
 struct box_said {

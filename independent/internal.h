@@ -9,8 +9,8 @@
 #include "box.h"
 
 /*
- * DAMAGE 0 is the box, the reader of its log and the reading of durations; 1 to 10, 18 to 32 and 35 to 37 give the box, 11 to 17 the
- * reader, 33 and 34 the durations one known error each, to see that a comparison finds it.
+ * DAMAGE 0 is the box, the reader of its log and the reading of durations; 1 to 10, 18 to 32 and 35 to 42 give the box, 11 to 17 and
+ * 43 to 46 the reader, 33 and 34 the durations one known error each, to see that a comparison finds it.
  */
 #ifndef DAMAGE
 #define DAMAGE 0
@@ -24,9 +24,6 @@ enum {
     COUNTERS = 4,
     NUMBER_MOST = 9999,    /* times and counts */
     RUN_MOST = 400,        /* For and Next lines run in one call */
-    RECORD_BYTES = 12,
-    LOG_LEAST = 24,
-    LOG_MOST = 65536,
     REPLY_LEAST = 16,      /* a State line of 15 characters and its 13 */
     COMMAND_MOST = 32      /* characters kept of a command */
 };
@@ -78,6 +75,10 @@ struct box {
     uint32_t ticks;
     uint32_t log_length;          /* as given at power-on, 0 after a refused one */
     uint32_t lost;                /* changes lost since emptying, at its cap "that many or more" */
+    uint32_t first_lost;          /* the tick of the first of them; of no meaning while none is lost */
+#if DAMAGE == 39 || DAMAGE == 42
+    uint32_t stale;               /* the word that the gap goes on showing */
+#endif
     struct box_nones nones;       /* since power-on; nothing goes by them */
     uint16_t kept;                /* changes that stand in the log, R-1 at most */
     uint16_t wait;                /* unpaused ticks until the next line falls due */
@@ -126,10 +127,10 @@ static inline uint32_t four_bytes(const uint8_t *bytes)
 
 /* ---- what several calls check ---- */
 
-/* 031. The length given at power-on is 24 to 65,536, or 0 after a refused one; so this covers both bounds. */
+/* 031. The length given at power-on is 32 to 65,536, or 0 after a refused one; so this covers both bounds. */
 static inline bool log_refused(const struct box *box, size_t log_length)
 {
-    return log_length < LOG_LEAST || log_length != box->log_length;
+    return log_length < BOX_LOG_LEAST || log_length != box->log_length;
 }
 
 /* 030 then 031, for a call lent the program area and the log. */

@@ -2,15 +2,17 @@
 #ifndef INDEPENDENT_LOGLIST_H
 #define INDEPENDENT_LOGLIST_H
 
-#include <stddef.h>
-#include <stdint.h>
+#include "box.h"
 
 enum {
-    LOG_LIST_RECORDS = 5461,                  /* in the largest log: 65,536 bytes have room for as many of 12 */
-    LOG_LIST_MOST = LOG_LIST_RECORDS * 12,    /* bytes of a log: 65,532 */
-    LOG_LIST_LINE = 10 + 1 + 3 + 8 + 3 + 1,   /* the longest line: four fields, three spaces, its end */
-    LOG_LIST_ROOM = LOG_LIST_RECORDS * LOG_LIST_LINE
+    LOG_LIST_OLDER_RECORD = 12,                       /* of the mark 1E E1; those of 1E E2 are the box's own, BOX_LOG_RECORD */
+    LOG_LIST_MOST = BOX_LOG_MOST,                     /* bytes of a log */
+    LOG_LIST_LINE = 10 + 1 + 3 + 8 + 8 + 4 + 1,       /* the longest line: five fields, four spaces, its end */
+    LOG_LIST_OLDER_LINE = LOG_LIST_LINE - 8 - 1,      /* one field less */
+    LOG_LIST_ROOM = LOG_LIST_MOST / BOX_LOG_RECORD * LOG_LIST_LINE /* the longest text; one of the older mark is shorter */
 };
+
+_Static_assert(LOG_LIST_MOST / LOG_LIST_OLDER_RECORD * LOG_LIST_OLDER_LINE <= LOG_LIST_ROOM, "the longest text");
 
 /*
  * Writes the text of a log of any length, or the text of its refusal, to the start of `text`, whose rest stays, and answers the

@@ -35,7 +35,7 @@ def bad_bytes():
         say("CR212", "014")
         stands(PROGRAM, 0, line + END)
     say("CR206", "55")
-    empty("1EE101FF 00000000 00000055")
+    empty("1EE201FF 00000000 00000055 00000000")
 
 
 @scenario
@@ -114,14 +114,14 @@ def bad_lines_counted():
 @scenario
 def bad_lines_and_the_log():
     # "An event stop keeps the outputs": two States, then a Bad line; two records and no third.
-    fresh(ONE, TWO, "53000000 00FF2710", log=60, out=60)
+    fresh(ONE, TWO, "53000000 00FF2710", log=80, out=80)
     press(1)
     tick(times=2)
     say("CR206", "02")
     say("CR211", "002")
     say("CR201", "80")
     say("CR212", "014")
-    empty("1EE10100 00000000 00000001", "1EE10101 00000001 00000002")
+    empty("1EE20100 00000000 00000001 00000000", "1EE20101 00000001 00000002 00000001")
     tick(times=3)
     empty()
     # The lines behind it are not run; a start at it makes no record either.
@@ -134,13 +134,13 @@ def bad_lines_and_the_log():
     say("CW209003", "OK")
     say("CW210005", "OK")
     tick()
-    empty("1EE10103 00000006 00000001", "1EE10104 00000007 00000000")
+    empty("1EE20103 00000006 00000001 00000002", "1EE20104 00000007 00000000 00000001")
 
 
 @scenario
 def damaged_while_running():
     # Each line is read when it falls due. The one that is held goes on; on the next round it stops, and the Next before it counts as run.
-    fresh(*BLINK, log=60, out=60)
+    fresh(*BLINK, log=80, out=80)
     press(1, lines=1)
     tick()
     tick(lines=1)
@@ -151,7 +151,8 @@ def damaged_while_running():
     say("CR211", "001")
     say("CR212", "014")
     say("CR213", "0000")
-    empty("1EE10101 00000000 00000001", "1EE10102 00000001 00000002", "1EE10101 00000002 00000001", "1EE10102 00000003 00000002")
+    empty("1EE20101 00000000 00000001 00000000", "1EE20102 00000001 00000002 00000001",
+          "1EE20101 00000002 00000001 00000002", "1EE20102 00000003 00000002 00000001")
     # A loop goes back to the line after its For, which may be Bad meanwhile; its Next may not.
     fresh(*BLINK)
     press(1, lines=1)
@@ -165,7 +166,11 @@ def damaged_while_running():
     say("CR211", "003")
     say("CR213", "0000")
     say("CR212", "014")
-    # No tick in a pause comes to it; a line that is mended before it falls due runs.
+
+
+@scenario
+def mended_in_a_pause():
+    # No tick in a pause comes to a Bad line; one that is mended before it falls due runs.
     fresh("53000000 00010002", "00" * 8)
     press(1)
     tick()
@@ -184,7 +189,7 @@ def damaged_while_running():
 @scenario
 def bad_bytes_executed():
     # "Executing one by 006 does nothing and answers OK": no output, no record, whatever the bytes would be but for one of them.
-    fresh(log=36, out=36)
+    fresh(log=48, out=48)
     say("CW20655", "OK")
     for line in STATES + LETTERS + FORS[:1] + NEXTS[:1]:
         program(line)
@@ -201,7 +206,7 @@ def bad_bytes_executed():
     # With its time at 9999 the same line is a State.
     program("53000000 00FF270F", at=199)
     say("CW210006", "OK")
-    empty("1EE101FF 00000000 00000055", "1EE101FE 00000000 000000FF")
+    empty("1EE201FF 00000000 00000055 00000000", "1EE201FE 00000000 000000FF 00000055")
 
 
 def damage(step):
@@ -212,7 +217,7 @@ def damage(step):
 @scenario
 def damaged_copies():
     # "Load and save copy the bytes unaltered": power-on loads the saved copy as it is, and 200 is an end mark all the same.
-    lend(1600, 1600, 24, 16)
+    lend(1600, 1600, 32, 16)
     one, other = damage(37), damage(58)
     for saved in ("00" * 1600, one):
         alter(SAVED, 0, saved)

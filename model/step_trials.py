@@ -74,7 +74,7 @@ def first_steps_at_a_bad_line():
 @scenario
 def first_steps_while_running():
     # "Write while running or paused to anything but 209 and 210: E005": by I it is line 000 that is locked; D has no address, which is told first.
-    fresh("53000000 00000009", log=36)
+    fresh("53000000 00000009", log=48)
     press(1)
     asked("CRI CRD CWIN4 CWDN4 CW210003", "S00000000000009 E004 E005 E004 E020")
     press(2)
@@ -86,13 +86,13 @@ def first_steps_while_running():
 @scenario
 def first_steps_and_other_calls():
     # Ticks, presses, emptyings, bytes of no command and refused calls are no commands: both last addresses are still before 000.
-    fresh(*OWN, log=36)
+    fresh(*OWN, log=48)
     tick(times=3)
     press(2)
     empty()
-    lend(log=35)
+    lend(log=47)
     byte(13, 31)
-    lend(log=36, out=15)
+    lend(log=48, out=15)
     byte(ord("C"), 32)
     byte(13, 32)
     lend(out=16)
@@ -135,10 +135,10 @@ def first_steps_at_every_power_on():
         for refused in (False, True):
             say(moved, {"CR100": END_MARK, "CR216": "0000", "CRI": "N1", "CR000": "N1"}.get(moved, "OK"))
             if refused:
-                lend(log=23)
+                lend(log=31)
                 on(31)
                 byte(13, 31)
-                lend(log=24)
+                lend(log=32)
                 byte(13, 31)
             on()
             asked("CRD CWDN4 CRI CRD CWIN4 CWDN4 CR000 CR001", "E004 E004 N1 E004 OK E004 N4 N2")
@@ -160,13 +160,13 @@ def steps_from_the_last_address():
                     lambda: press(3, 34), lambda: byte(32), lambda: say("", "E001"), lambda: say("XRD", "E002"),
                     lambda: say("CR217", "E004"), lambda: say("CW217", "E004"), lambda: say("CW210002", "E022"),
                     lambda: say("CW210004", "E021"), lambda: say("CW210009", "E003")):
-        fresh(log=36)
+        fresh(log=48)
         asked("CR002 CW002N2", "N2 OK")
         between()
         asked("CRI CRD CRD CWIN4 CWDN1 CR003 CR002", "N3 N2 N1 OK OK N4 N1")
     # Each special command that is taken; a load is no power-on.
     for code in (1, 3, 5, 6, 7, 8):
-        fresh(log=36)
+        fresh(log=48)
         say("CR002", "N2")
         say("CW210%03d" % code, "OK")
         asked("CRI CRD CRD CWI000 CWD000", "N3 N2 N1 E004 OK")

@@ -18,7 +18,7 @@ END = "53000000 00000000"
 GUARD = "A5A6A7A8A9AAABAC"
 BLINK = ("4601270F 00000000", "53000000 00010001", "53000000 00020001", "4E010000 00000000")
 buffers = [bytearray(size) for size in SIZES]
-lent = [1600, 1600, 24, 16]
+lent = [1600, 1600, 32, 16]
 sent, printed = bytearray(), bytearray()
 machine = Machine()
 scenarios = []
@@ -116,7 +116,7 @@ def save_end_marks():
     alter(SAVED, 0, END * 200)
 
 
-def fresh(*lines, log=24, out=16, at=0):
+def fresh(*lines, log=32, out=16, at=0):
     """Right lengths, a power-on, which loads the end marks of the saved copy, then the lines."""
     lend(1600, 1600, log, out)
     on()

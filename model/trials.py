@@ -2,7 +2,7 @@
 
 Here are the scenarios of the log, the program area, the saved copy and the lines run; those of the
 refusals are in call_trials.py, those of I and D from power-on on in step_trials.py, those of Bad lines in
-bad_trials.py.
+bad_trials.py, those of what a gap tells in gap_trials.py.
 """
 
 import sys
@@ -10,6 +10,7 @@ import sys
 import call_trials  # its scenarios come first
 import step_trials
 import bad_trials
+import gap_trials
 from trial_script import (BLINK, END, GUARD, LOG, OUT, PROGRAM, SAVED, alter, empty, fresh, lend, on, press,
                           printed, program, say, scenario, scenarios, sent, stands, tick)
 
@@ -18,44 +19,49 @@ from trial_script import (BLINK, END, GUARD, LOG, OUT, PROGRAM, SAVED, alter, em
 
 @scenario
 def log_lengths():
-    # 24 to 65,536 bytes are accepted; "The area holds R whole 12-byte records".
-    for log in (24, 25, 35, 36, 48, 65536):
+    # 32 to 65,536 bytes are accepted; the area holds R whole 16-byte records (02, item 8).
+    for log in (32, 33, 47, 48, 64, 65536):
         fresh(log=log, out=128)
         tick()
-        alter(LOG, 12, "C1C2C3C4")
+        alter(LOG, 16, "C1C2C3C4")
         alter(LOG, log - 1, "EE")
         say("CW20301", "OK")
-        empty("1EE101FF 00000001 01000000")
-        stands(LOG, 12, "C1C2C3C4")
+        empty("1EE201FF 00000001 01000000 00000000")
+        stands(LOG, 16, "C1C2C3C4")
         stands(LOG, log - 1, "EE")
 
 
 @scenario
 def records_and_gap():
     # "With fewer than R changes since emptying, all stand there.  From the R-th on, the last place is kind 2."
-    one, two, three = ("1EE10101 00000000 00000001", "1EE10102 00000001 00000002", "1EE10101 00000002 00000001")
+    # 02, item 8: the last bytes hold the word before the change, and in a gap, whose tick is the first lost change's, the last word.
+    one, two, three = ("1EE20101 00000000 00000001 00000000", "1EE20102 00000001 00000002 00000001",
+                       "1EE20101 00000002 00000001 00000002")
     for log, changes, expected in (
-            (24, 1, (one,)), (24, 2, (one, "1EE10200 00000001 00000001")), (24, 3, (one, "1EE10200 00000002 00000002")),
-            (24, 7, (one, "1EE10200 00000006 00000006")), (35, 1, (one,)), (35, 2, (one, "1EE10200 00000001 00000001")),
-            (36, 2, (one, two)), (36, 3, (one, two, "1EE10200 00000002 00000001")),
-            (36, 4, (one, two, "1EE10200 00000003 00000002")), (36, 8, (one, two, "1EE10200 00000007 00000006")),
-            (48, 3, (one, two, three)), (48, 4, (one, two, three, "1EE10200 00000003 00000001")),
-            (48, 5, (one, two, three, "1EE10200 00000004 00000002")),
-            (48, 9, (one, two, three, "1EE10200 00000008 00000006")), (47, 8, (one, two, "1EE10200 00000007 00000006"))):
+            (32, 1, (one,)), (32, 2, (one, "1EE20200 00000001 00000001 00000002")),
+            (32, 3, (one, "1EE20200 00000001 00000002 00000001")), (32, 7, (one, "1EE20200 00000001 00000006 00000001")),
+            (33, 2, (one, "1EE20200 00000001 00000001 00000002")), (47, 1, (one,)),
+            (47, 2, (one, "1EE20200 00000001 00000001 00000002")), (48, 2, (one, two)),
+            (48, 3, (one, two, "1EE20200 00000002 00000001 00000001")), (48, 4, (one, two, "1EE20200 00000002 00000002 00000002")),
+            (48, 8, (one, two, "1EE20200 00000002 00000006 00000002")), (64, 3, (one, two, three)),
+            (64, 4, (one, two, three, "1EE20200 00000003 00000001 00000002")),
+            (64, 5, (one, two, three, "1EE20200 00000003 00000002 00000001")),
+            (64, 9, (one, two, three, "1EE20200 00000003 00000006 00000001")),
+            (63, 8, (one, two, "1EE20200 00000002 00000006 00000002"))):
         fresh(*BLINK, log=log, out=128)
-        alter(LOG, 12 * (log // 12), "D1D2D3")
+        alter(LOG, 16 * (log // 16), "D1D2D3")
         press(1, lines=1)
         for k in range(1, changes):
             tick(lines=1 if k % 2 == 0 else 0)
         empty(*expected)
-        stands(LOG, 12 * (log // 12), "D1D2D3")
+        stands(LOG, 16 * (log // 16), "D1D2D3")
         stands(LOG, 0, " ".join(expected))
 
 
 @scenario
 def causes():
     # "cause is the line, 254 for command 006, 255 for a write to 203-206"; no record where the word stays.
-    fresh("53000000 00050000", log=120, out=128)
+    fresh("53000000 00050000", log=160, out=128)
     program("53008000 00000001", at=199)
     say("CW206FF", "OK")
     say("CW206FF", "OK")
@@ -71,85 +77,85 @@ def causes():
     say("CW200S00000001000000", "OK")
     say("CW209200", "OK")
     say("CW210006", "OK")
-    empty("1EE101FF 00000000 000000FF", "1EE101FF 00000000 A00000FF", "1EE101FE 00000000 00000005",
-          "1EE101C7 00000000 80000000", "1EE101FE 00000001 00000100")
+    empty("1EE201FF 00000000 000000FF 00000000", "1EE201FF 00000000 A00000FF 000000FF", "1EE201FE 00000000 00000005 A00000FF",
+          "1EE201C7 00000000 80000000 00000005", "1EE201FE 00000001 00000100 80000000")
 
 
 @scenario
 def no_change_no_record():
     # "A change is a call after which the output word differs": two lines with one word, pause and stop give none.
-    fresh("53000000 00010001", "53000000 00010001", "53000000 00000005", log=36, out=24)
+    fresh("53000000 00010001", "53000000 00010001", "53000000 00000005", log=48, out=32)
     press(1)
     tick()
     press(2)
     press(2)
     press(1)
-    empty("1EE10100 00000000 00000001")
+    empty("1EE20100 00000000 00000001 00000000")
     press(1)
     empty()
     tick(times=2)
-    empty("1EE10102 00000003 00000000")
+    empty("1EE20102 00000003 00000000 00000001")
 
 
 @scenario
 def emptying():
     # "copies the records held, in order, ... leaves its rest, returns their byte count, and the room is used again".
-    fresh(*BLINK, log=36, out=128)
+    fresh(*BLINK, log=48, out=128)
     press(1, lines=1)
     tick()
-    empty("1EE10101 00000000 00000001", "1EE10102 00000001 00000002")
+    empty("1EE20101 00000000 00000001 00000000", "1EE20102 00000001 00000002 00000001")
     empty()
     tick(lines=1)
-    lend(out=12)
-    empty("1EE10101 00000002 00000001")
-    stands(OUT, 12, "1EE10102 00000001 00000002")
-    stands(LOG, 0, "1EE10101 00000002 00000001 1EE10102 00000001 00000002")
+    lend(out=16)
+    empty("1EE20101 00000002 00000001 00000002")
+    stands(OUT, 16, "1EE20102 00000001 00000002 00000001")
+    stands(LOG, 0, "1EE20101 00000002 00000001 00000002 1EE20102 00000001 00000002 00000001")
     tick()
     press(2)
     tick(times=3)
-    empty("1EE10102 00000003 00000002")
+    empty("1EE20102 00000003 00000002 00000001")
     lend(out=0)
     empty()
     press(2)
     for lines in (1, 0, 1, 0):
         tick(lines=lines)
-    lend(out=35)
+    lend(out=47)
     empty(refusal=35)
-    lend(out=36)
-    empty("1EE10101 00000007 00000001", "1EE10102 00000008 00000002", "1EE10200 0000000A 00000002")
+    lend(out=48)
+    empty("1EE20101 00000007 00000001 00000002", "1EE20102 00000008 00000002 00000001", "1EE20200 00000009 00000002 00000002")
     tick(lines=1)
     tick()
     tick(lines=1)
-    empty("1EE10101 0000000B 00000001", "1EE10102 0000000C 00000002", "1EE10200 0000000D 00000001")
+    empty("1EE20101 0000000B 00000001 00000002", "1EE20102 0000000C 00000002 00000001", "1EE20200 0000000D 00000001 00000001")
     on()
-    stands(LOG, 24, "1EE10200 0000000D 00000001")
+    stands(LOG, 32, "1EE20200 0000000D 00000001 00000001")
     empty()
 
 
 @scenario
 def altered_log():
     # "A log that the caller altered is not repaired: each call still writes exactly the record that is due."
-    fresh(*BLINK, log=36, out=128)
-    alter(LOG, 0, "00112233445566778899AABB" + "CC" * 24)
+    fresh(*BLINK, log=48, out=128)
+    alter(LOG, 0, "00112233445566778899AABBCCDDEEFF" + "CC" * 32)
     empty()
     press(1, lines=1)
-    alter(LOG, 0, "FFEEDDCCBBAA998877665544")
+    alter(LOG, 0, "FFEEDDCCBBAA99887766554433221100")
     tick()
-    stands(LOG, 24, "CC" * 12)
+    stands(LOG, 32, "CC" * 16)
     tick(lines=1)
-    alter(LOG, 24, "0000000000000000FFFFFFFF")
-    alter(LOG, 14, "09")
+    alter(LOG, 32, "0000000000000000FFFFFFFF00000000")
+    alter(LOG, 18, "09")
     tick()
-    empty("FFEEDDCCBBAA998877665544", "1EE10902 00000001 00000002", "1EE10200 00000003 00000002")
+    empty("FFEEDDCCBBAA99887766554433221100", "1EE20902 00000001 00000002 00000001", "1EE20200 00000002 00000002 00000002")
     tick(lines=1)
     alter(LOG, 2, "07")
-    empty("1EE10701 00000004 00000001")
+    empty("1EE20701 00000004 00000001 00000002")
 
 
 @scenario
 def ticks_counted():
     # "A tick first adds one to the count, whether stopped, paused or running."
-    fresh("53000000 00010002", "53000000 00020000", log=48, out=48)
+    fresh("53000000 00010002", "53000000 00020000", log=64, out=64)
     tick(times=5)
     press(1)
     press(2)
@@ -158,7 +164,7 @@ def ticks_counted():
     tick(times=2)
     tick(times=250)
     say("CW206FF", "OK")
-    empty("1EE10100 00000005 00000001", "1EE10101 0000000B 00000002", "1EE101FF 00000105 000000FF")
+    empty("1EE20100 00000005 00000001 00000000", "1EE20101 0000000B 00000002 00000001", "1EE201FF 00000105 000000FF 00000002")
 
 
 # ---- Variables: the program area and the saved copy.
@@ -170,11 +176,11 @@ def altered_program():
            "4601000100000001", "4E00000000000000", "4E05000000000000", "4E01000000000001", "0000000000000000",
            "FFFFFFFFFFFFFFFF", "7300000000FF0001")
     for line in bad:
-        fresh("53000000 00010002", "53000000 00020001", log=36, out=36)
+        fresh("53000000 00010002", "53000000 00020001", log=48, out=48)
         press(1)
         program("53000000 00FF0009", line)
         tick(times=2)
-        empty("1EE10100 00000000 00000001")
+        empty("1EE20100 00000000 00000001 00000000")
         stands(PROGRAM, 8, line)
     say("CR212", "014")
     say("CR211", "001")
@@ -200,7 +206,7 @@ def altered_program():
 def load_and_save():
     # 02, item 4: "Load and save copy the bytes unaltered"; power-on loads too, and 008 leaves the area as it was.
     mixed = ("53000000000A270F", "5300000000FF2710", "4604270F00000000", "4E04000000000000", "4E04000001000000", "0102030405060708")
-    lend(1600, 1600, 24, 16)
+    lend(1600, 1600, 32, 16)
     alter(SAVED, 0, "".join(mixed))
     alter(SAVED, 1592, "FFFFFFFFFFFFFFFF")
     on()

@@ -18,7 +18,7 @@ ROOT = os.path.dirname(os.path.dirname(os.path.abspath(__file__)))
 FOLDERS = ('.ci', 'crates', 'docs', 'host', 'independent', 'model', 'tools')
 SCENARIOS = {
     'corners': ('wire_corners.py', 'running_corners.py', 'none_corners.py', 'bad_corners.py'),
-    'trials': ('call_trials.py', 'step_trials.py', 'trials.py', 'bad_trials.py'),
+    'trials': ('call_trials.py', 'step_trials.py', 'trials.py', 'bad_trials.py', 'gap_trials.py'),
 }
 
 

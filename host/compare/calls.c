@@ -116,7 +116,7 @@ static int finish(struct calls *calls)
         printf("\nASTRAY: %" PRIu64 " times both boxes did what is not the papers': an error that has no meaning; from before 000 E004 to I, or\n"
                "another reply than that to D; a special command that is not answered as above, or a read of a line not as its eight bytes are; a\n"
                "power-on, load or save that is no copy; a Bad line that set outputs, or stopped the program with another event than 014;\n"
-               "014 on a line that is not Bad.\n",
+               "014 on a line that is not Bad; a log area taken or refused against its length; a record that is not the one due.\n",
                calls->statistics.astray);
         return 1;
     }

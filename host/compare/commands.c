@@ -284,6 +284,30 @@ void say_single(struct maker *maker)
     say(maker, SELDOM, "CW210006");
 }
 
+/* One to three changes are lost, and of two the second often leads back. In a log of many places they would take too many calls. */
+void say_losses(struct maker *maker)
+{
+    struct chance *chance = &maker->chance;
+    unsigned places = maker->log / NIZHALEPU_LOG_RECORD, lost = chance_between(chance, 1, 3);
+    if (places > 8) return;
+    say(maker, UNDAMAGED, "CW210001");
+    make_whole_empty(maker);
+    for (unsigned n = 0; n < places - 1 + lost; n++) {
+        say(maker, UNDAMAGED, "CW206%02X", chance_one_in(chance, 8) ? chance_below(chance, 256) : n % 2 == 0 ? 0x55u : 0xAAu);
+        if (chance_one_in(chance, 2)) make_ticks(maker, 1);
+        if (chance_one_in(chance, 6)) alter_record(maker, n < places ? n : places - 1); /* most often the one just written */
+    }
+    make_whole_empty(maker);
+}
+
+/* The write changes nothing where a program runs, or where the outputs are so already. */
+void say_behind_altered(struct maker *maker)
+{
+    struct chance *chance = &maker->chance;
+    alter_written(maker);
+    say(maker, UNDAMAGED, "CW%03u%02X", chance_between(chance, 203, 206), chance_below(chance, 256));
+}
+
 void say_noise(struct maker *maker)
 {
     struct chance *chance = &maker->chance;

@@ -3,16 +3,16 @@
 /* Small logs, so that gaps come soon; now and then a large one with room for wrong lengths beyond 65,536. */
 static void choose_log(struct maker *maker, bool *large)
 {
-    static const uint32_t lengths[] = {24, 25, 35, 36, 47, 48, 60, 100, 1000};
+    static const uint32_t lengths[] = {32, 33, 47, 48, 49, 63, 64, 100, 1000};
     struct chance *chance = &maker->chance;
-    *large = chance_one_in(chance, 60);
+    *large = chance_one_in(chance, 30);
     if (*large) {
-        maker->log = chance_one_in(chance, 2) ? 65536 : chance_between(chance, 24, 65536);
+        maker->log = chance_one_in(chance, 2) ? 65536 : chance_between(chance, NIZHALEPU_LOG_LEAST, 65536);
         maker->room = 70000;
         return;
     }
     if (chance_one_in(chance, 3))
-        maker->log = chance_between(chance, 24, chance_one_in(chance, 4) ? 2000 : 150);
+        maker->log = chance_between(chance, NIZHALEPU_LOG_LEAST, chance_one_in(chance, 4) ? 2000 : 150);
     else
         maker->log = lengths[chance_below(chance, 9)];
     maker->room = maker->log + chance_between(chance, 1, 80);
@@ -81,11 +81,11 @@ size_t episode_begin(struct maker *maker, struct both *both, uint64_t seed)
     choose_log(maker, &large);
     both_make(both, maker->room, chance_below(chance, 8));
     fill_areas(maker);
-    power(maker, chance_one_in(chance, large ? 3 : 12));
+    power(maker, chance_one_in(chance, large ? 1 : 12)); /* only a large one has room to be refused as too long */
     size_t calls = choose_calls(chance, large);
     if (large && chance_one_in(chance, 2)) {
         run_fill(maker);
-        calls += maker->log / 12;
+        calls += maker->log / NIZHALEPU_LOG_RECORD;
     }
     return calls;
 }
@@ -111,10 +111,14 @@ static void anything(struct maker *maker)
         make_press(maker, chance_between(chance, 1, 2));
     else if (luck < 860)
         make_empty(maker);
-    else if (luck < 960)
+    else if (luck < 930)
         alter_somewhere(maker);
+    else if (luck < 960)
+        say_behind_altered(maker);
+    else if (luck < 990)
+        power(maker, luck >= 982);
     else if (luck < 994)
-        power(maker, luck >= 985);
+        say_losses(maker);
     else
         run_fill(maker);
 }

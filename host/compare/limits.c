@@ -6,6 +6,7 @@
 #include "clock.h"
 #include "compare.h"
 #include "line.h"
+#include "logs.h"
 #include "prepare.h"
 
 #include <inttypes.h>
@@ -13,7 +14,7 @@
 #include <string.h>
 #include <unistd.h>
 
-enum { LOG_LENGTH = 24, LAST_TICK = 33 };
+enum { LOG_LENGTH = NIZHALEPU_LOG_LEAST, LAST_TICK = 33 };
 
 static const uint32_t most = 4294967295u;
 
@@ -34,7 +35,7 @@ static void show_progress(uint32_t done)
     fprintf(stderr, "\r%" PRIu32 " of %" PRIu32 " ticks ", done, most);
 }
 
-/* As many ticks as there are. The 24 bytes of the log are compared after each; a tick is lent the program area to read alone,
+/* As many ticks as there are. The 32 bytes of the log are compared after each; a tick is lent the program area to read alone,
  * and is not lent the others, so these are compared at the end. */
 static bool all_ticks(struct both *both)
 {
@@ -96,16 +97,19 @@ static bool last_tick(struct both *both)
            say(both, "CW210003") && no_more_ticks(both) && read_all(both);
 }
 
-/* The number that the gap in the last place of the log shows. */
-static uint32_t lost(const struct both *both)
+/* The last of the two places of the log must hold a gap: the tick of the first lost change, the number lost, the word after the last. */
+static bool gap_shows(const struct both *both, uint32_t tick, uint32_t lost, uint32_t word)
 {
-    const uint8_t *value = both->area[PROVED][LOG] + 20;
-    return (uint32_t)value[0] << 24 | (uint32_t)value[1] << 16 | (uint32_t)value[2] << 8 | value[3];
+    uint8_t due[LOG_RECORD];
+    log_put_record(due, PRESENT, GAP, 0, tick, lost, word);
+    if (memcmp(both->area[PROVED][LOG] + LOG_RECORD, due, LOG_RECORD) == 0) return true;
+    printf("due in the gap: tick %" PRIu32 ", lost %" PRIu32 ", word %08" PRIX32 ": ", tick, lost, word);
+    return differs("the gap does not show it", both);
 }
 
-static bool gap_full(const struct both *both)
+static void alter_gap(struct both *both, uint8_t fill)
 {
-    return lost(both) == most ? true : differs("the gap does not show 4294967295", both);
+    for (int i = 0; i < BOXES; i++) memset(both->area[i][LOG] + LOG_RECORD, fill, LOG_RECORD);
 }
 
 static void program_changing(uint8_t *program)
@@ -117,19 +121,30 @@ static void program_changing(uint8_t *program)
     for (unsigned c = 3; c >= 1; c--) line_next(program + 8 * i++, c);
 }
 
-/* The start makes the first change, which has a record of its own, and each tick one more: the last tick is the one that
- * brings the number lost to the most. Changes by writes follow. */
+/* Changes by writes to 203 when the number is at its cap: the word goes on with each, and the tick of the first lost change stays,
+ * whatever the caller makes of the gap in between. */
+static bool lose_more(struct both *both, uint32_t outputs)
+{
+    for (unsigned n = 0; n < 8; n++) {
+        outputs = (outputs & 0x00FFFFFF) | (n % 2 == 0 ? 0xA5000000 : 0x5A000000);
+        if (n >= 4) alter_gap(both, (uint8_t)(0x11 * n));
+        if (!say(both, n % 2 == 0 ? "CW203A5" : "CW2035A") || !gap_shows(both, 1, most, outputs)) return false;
+    }
+    return true;
+}
+
+/* The start makes the first change, which has a record of its own, and each tick one more, to the outputs 2 and 1 in turn: the first
+ * is lost in tick 1, and the last tick, an odd one, brings the number lost to the most. After emptying all begins anew. */
 static bool full_gap(struct both *both)
 {
     if (!power_on(both)) return false;
     for (int i = 0; i < BOXES; i++) program_changing(both->area[i][PROGRAM]);
-    if (!say(both, "CW210003") || !all_ticks(both) || !gap_full(both) || !no_more_ticks(both)) return false;
-    if (!say(both, "CW210001")) return false;
-    for (int n = 0; n < 8; n++)
-        if (!say(both, n % 2 == 0 ? "CW203A5" : "CW2035A") || !gap_full(both)) return false;
+    if (!say(both, "CW210003") || !all_ticks(both) || !gap_shows(both, 1, most, 2) || !no_more_ticks(both)) return false;
+    if (!say(both, "CW210001") || !lose_more(both, 2)) return false;
     struct step empty = prepare_step(EMPTY, 0, LOG_LENGTH);
     if (!both_do(both, &empty)) return differs("in emptying", both);
-    return say(both, "CW20300") && say(both, "CW203FF") && read_all(both);
+    return say(both, "CW20300") && say(both, "CW203FF") && gap_shows(both, most, 1, 0xFF000002) && say(both, "CW20300") &&
+           gap_shows(both, most, 2, 2) && read_all(both);
 }
 
 static bool timed(const char *name, bool (*limit)(struct both *))
@@ -149,6 +164,6 @@ static bool timed(const char *name, bool (*limit)(struct both *))
 int compare_limits(void)
 {
     bool equal = timed("4,294,967,295 ticks on a stopped box, then 033:", last_tick);
-    equal &= timed("4,294,967,295 changes lost in a log of 24 bytes, then more:", full_gap);
+    equal &= timed("4,294,967,295 changes lost in a log of 32 bytes, then more:", full_gap);
     return equal ? 0 : 1;
 }

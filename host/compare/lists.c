@@ -1,6 +1,7 @@
 #include "lists.h"
 
 #include "clock.h"
+#include "listed.h"
 #include "loglist.h"
 
 #include <stdlib.h>
@@ -11,9 +12,9 @@ enum {
     AREA = LOG_LIST_ROOM + BEHIND,
     NEAR = 64,         /* bytes behind the text that are looked at each time */
     WHOLE_AFTER = 256, /* the whole area is looked at once in as many logs: it is long and most texts are short */
-    COPIES = 48,       /* of a log */
+    COPIES = 32,       /* of a log in each form */
     LONG = 100,        /* records: of a log with more there is one copy */
-    EPISODES = 40,     /* in which one log as long as can be is made up */
+    EPISODES = 20,     /* in which one log as long as can be is made up */
     SHORTEN_SECONDS = 5
 };
 
@@ -39,7 +40,7 @@ static bool agree(struct lists *lists, size_t count)
 /* Bytes of the text areas that the text of the log may reach, and some more. */
 static size_t reach(const struct lists *lists)
 {
-    size_t lines = (lists->log.length / LOG_RECORD + 1) * LOG_LIST_LINE + NEAR;
+    size_t lines = (lists->log.length / LOG_OLDER_RECORD + 1) * LOG_LIST_LINE + NEAR;
     return lists->read % WHOLE_AFTER == 0 || lines > AREA ? AREA : lines;
 }
 
@@ -77,31 +78,11 @@ static bool refused(const struct lists *lists)
     return lists->written[PROVED] > 0 && lists->text[PROVED][0] == 'E';
 }
 
-static bool ends_with_gap(const struct log *log)
+/* By the first two bytes; a file that has not as many is of none. */
+static void count_mark(struct lists *lists)
 {
-    return log->length >= LOG_RECORD && log->bytes[log->length - LOG_RECORD + 2] == 2;
-}
-
-static enum listed accepted_as(const struct log *log)
-{
-    if (log->length == 0) return LISTED_NONE;
-    if (log->length == LOG_MOST) return LISTED_FULL;
-    if (ends_with_gap(log)) return LISTED_GAP;
-    return log->length == LOG_CHANGES_MOST * LOG_RECORD ? LISTED_MOST_CHANGES : LISTED_CHANGES;
-}
-
-static enum listed refused_as(const struct lists *lists)
-{
-    switch (lists->text[PROVED][3]) {
-    case '0':
-        return LISTED_E050;
-    case '1':
-        return LISTED_E051;
-    case '2':
-        return lists->log.length == LOG_MOST && !ends_with_gap(&lists->log) ? LISTED_E052_OVER : LISTED_E052;
-    default:
-        return LISTED_E056;
-    }
+    unsigned mark = log_mark(lists->log.bytes, lists->log.length);
+    lists->statistics->marks[mark == MARK_PRESENT ? PRESENT : mark == MARK_OLDER ? OLDER : FORMS]++;
 }
 
 static bool read_log(struct lists *lists)
@@ -111,8 +92,9 @@ static bool read_log(struct lists *lists)
     lists->read++;
     store(lists);
     enum listed listed = LISTED_NO_ROOM;
-    if (lists->room >= LOG_LIST_ROOM) listed = refused(lists) ? refused_as(lists) : accepted_as(&lists->log);
+    if (lists->room >= LOG_LIST_ROOM) listed = listed_as(&lists->log, lists->text[PROVED], lists->written[PROVED]);
     lists->statistics->listed[listed]++;
+    count_mark(lists);
     return true;
 }
 
@@ -120,6 +102,7 @@ static bool read_log(struct lists *lists)
 
 static void take_whole(struct lists *lists)
 {
+    lists->log.form = lists->whole.form;
     lists->log.length = lists->whole.length;
     memcpy(lists->log.bytes, lists->whole.bytes, lists->whole.length);
 }
@@ -128,7 +111,7 @@ static void take_whole(struct lists *lists)
 static bool read_spoiled(struct lists *lists)
 {
     struct chance *chance = &lists->chance;
-    bool few = lists->whole.length == 0 || lists->whole.length > LONG * LOG_RECORD;
+    bool few = lists->whole.length == 0 || log_records(&lists->whole) > LONG;
     for (unsigned n = few ? 1 : COPIES; n > 0; n--) {
         take_whole(lists);
         log_spoil(&lists->log, chance);
@@ -138,21 +121,34 @@ static bool read_spoiled(struct lists *lists)
     return true;
 }
 
-bool lists_emptied(struct lists *lists, const uint8_t *bytes, size_t length, bool altered)
+/* The whole log, which is to be accepted where only a box wrote it, and spoiled copies. */
+static bool read_whole(struct lists *lists, bool written_by_box)
 {
-    lists->whole.length = length;
-    memcpy(lists->whole.bytes, bytes, length);
     take_whole(lists);
     if (!read_log(lists)) return false;
-    lists->own_refused = !altered && refused(lists);
+    lists->own_refused = written_by_box && refused(lists);
     return !lists->own_refused && read_spoiled(lists);
 }
 
-/* 5,460 changes, the same and a gap, and one change more, in turn. */
+/* What the box wrote, and the same as one of the older form would have written it: what is possible in the one is so in the other. */
+bool lists_emptied(struct lists *lists, const uint8_t *bytes, size_t length, bool altered)
+{
+    lists->whole.form = PRESENT;
+    lists->whole.length = length;
+    memcpy(lists->whole.bytes, bytes, length);
+    if (!read_whole(lists, !altered)) return false;
+    take_whole(lists);
+    log_make_older(&lists->whole, &lists->log);
+    return read_whole(lists, !altered);
+}
+
+/* As many changes as can be, the same and a gap, and one change more, in turn, of either form. */
 static void make_most(struct lists *lists)
 {
-    uint64_t turn = lists->statistics->episodes / EPISODES % 3;
-    log_make(&lists->whole, &lists->chance, turn == 2 ? LOG_CHANGES_MOST + 1 : LOG_CHANGES_MOST, turn == 1);
+    uint64_t turn = lists->statistics->episodes / EPISODES % 6;
+    enum form form = turn < 3 ? PRESENT : OLDER;
+    size_t most = log_most_records(form);
+    log_make(&lists->whole, form, &lists->chance, turn % 3 == 2 ? most : most - 1, turn % 3 == 1);
 }
 
 bool lists_made_up(struct lists *lists)
@@ -161,11 +157,11 @@ bool lists_made_up(struct lists *lists)
     if (lists->statistics->episodes % EPISODES == 1) {
         make_most(lists);
     } else {
-        uint32_t most = chance_one_in(chance, EPISODES) ? LOG_CHANGES_MOST : 20;
-        log_make(&lists->whole, chance, chance_between(chance, 1, most), chance_one_in(chance, 2));
+        enum form form = chance_one_in(chance, 2) ? PRESENT : OLDER;
+        uint32_t most = chance_one_in(chance, EPISODES) ? (uint32_t)log_most_records(form) - 1 : 20;
+        log_make(&lists->whole, form, chance, chance_between(chance, 1, most), chance_one_in(chance, 2));
     }
-    take_whole(lists);
-    return read_log(lists) && read_spoiled(lists);
+    return read_whole(lists, false);
 }
 
 /* ---- a difference */
@@ -175,7 +171,7 @@ static bool shorter(struct lists *lists, size_t place, size_t count)
 {
     struct log *log = &lists->log;
     lists->whole = *log;
-    size_t at = place * LOG_RECORD, by = count * LOG_RECORD;
+    size_t at = place * log_record_bytes(log->form), by = count * log_record_bytes(log->form);
     memmove(log->bytes + at, log->bytes + at + by, log->length - at - by);
     log->length -= by;
     if (!agree(lists, AREA)) return true;
@@ -189,8 +185,8 @@ static void shorten(struct lists *lists)
     uint64_t end = clock_nanoseconds() + (uint64_t)SHORTEN_SECONDS * 1000000000u;
     for (bool gone = true; gone;) {
         gone = false;
-        for (size_t size = lists->log.length / LOG_RECORD; size > 0; size /= 2)
-            for (size_t place = lists->log.length / LOG_RECORD; place >= size; place -= size) {
+        for (size_t size = log_records(&lists->log); size > 0; size /= 2)
+            for (size_t place = log_records(&lists->log); place >= size; place -= size) {
                 if (clock_nanoseconds() > end) return;
                 gone = shorter(lists, place - size, size) || gone;
             }
@@ -201,14 +197,14 @@ static void shorten(struct lists *lists)
 static void print_log(const struct log *log)
 {
     enum { SHOWN = 20 };
-    size_t count = (log->length + LOG_RECORD - 1) / LOG_RECORD;
+    size_t bytes = log_record_bytes(log->form), count = (log->length + bytes - 1) / bytes;
     for (size_t i = 0; i < count; i++) {
         if (i == SHOWN && count > 2 * SHOWN) {
             i = count - SHOWN;
             printf("  and %zu records\n", i - SHOWN);
         }
         printf("  ");
-        for (size_t k = i * LOG_RECORD; k < log->length && k < (i + 1) * LOG_RECORD; k++) printf("%02X", log->bytes[k]);
+        for (size_t k = i * bytes; k < log->length && k < (i + 1) * bytes; k++) printf("%02X", log->bytes[k]);
         putchar('\n');
     }
 }

@@ -1,4 +1,4 @@
-/* lists.h: the proved reader of the log and the independent one, on the same logs. */
+/* lists.h: the proved reader of the log and the independent one, on the same logs, of both marks and of none. */
 #ifndef COMPARE_LISTS_H
 #define COMPARE_LISTS_H
 

@@ -14,7 +14,7 @@ static struct lengths usual(struct maker *maker)
 static uint32_t wrong_log(struct maker *maker)
 {
     struct chance *chance = &maker->chance;
-    uint32_t wrong[] = {0, 12, 23, 24, maker->log - 1, maker->log + 1, 65537, 70000, chance_below(chance, maker->room + 1)};
+    uint32_t wrong[] = {0, 16, 24, 31, 32, maker->log - 1, maker->log + 1, 65537, 70000, chance_below(chance, maker->room + 1)};
     uint32_t length = wrong[chance_below(chance, sizeof wrong / sizeof *wrong)];
     return length <= maker->room ? length : maker->room;
 }
@@ -38,7 +38,7 @@ static void make_wrong(struct maker *maker, struct step *step)
     if (which & 8) {
         if (step->kind == PRESS) step->value = wrong_button(chance);
         if (step->kind == BYTE) step->lent.other = chance_one_in(chance, 2) ? 15 : chance_below(chance, 16);
-        if (step->kind == EMPTY) step->lent.other = chance_below(chance, 13);
+        if (step->kind == EMPTY) step->lent.other = chance_below(chance, NIZHALEPU_LOG_RECORD + 1);
     }
 }
 
@@ -58,7 +58,7 @@ static void make_call(struct maker *maker, enum kind kind, uint32_t value, struc
 
 void make_power_on(struct maker *maker)
 {
-    static const uint32_t usual_logs[] = {24, 25, 35, 36, 47, 48, 60, 100, 1000, 65536};
+    static const uint32_t usual_logs[] = {32, 33, 47, 48, 49, 63, 64, 100, 1000, 65536};
     struct chance *chance = &maker->chance;
     if (chance_one_in(chance, 3)) {
         uint32_t log = usual_logs[chance_below(chance, 10)];
@@ -70,9 +70,9 @@ void make_power_on(struct maker *maker)
 
 static uint32_t refused_log(struct maker *maker)
 {
-    static const uint32_t lengths[] = {0, 12, 23, 23, 65537, 65537, 65537, 70000};
+    static const uint32_t lengths[] = {0, 24, 31, 31, 65537, 65537, 65537, 70000};
     uint32_t length = lengths[chance_below(&maker->chance, 8)];
-    return length <= maker->room ? length : 23;
+    return length <= maker->room ? length : 31;
 }
 
 /* Every call after it is refused; some are made, and then the power goes on rightly. */
@@ -117,7 +117,7 @@ void make_empty(struct maker *maker)
 {
     struct chance *chance = &maker->chance;
     const struct nizhalepu_log *log = &maker->both->record->log;
-    uint32_t held = 12 * ((uint32_t)log->kept + (log->lost > 0));
+    uint32_t held = NIZHALEPU_LOG_RECORD * ((uint32_t)log->kept + (log->lost > 0));
     uint32_t most = (uint32_t)maker->both->room[DESTINATION];
     struct lengths lent = usual(maker);
     switch (chance_below(chance, 8)) {
@@ -166,6 +166,35 @@ void alter_line(struct maker *maker, enum area area, unsigned line, const uint8_
     struct step step = alteration(area, GIVEN, line * LINE_BYTES, LINE_BYTES, 0);
     memcpy(step.alter.bytes, bytes, LINE_BYTES);
     steps_add(&maker->row, &step);
+}
+
+void alter_record(struct maker *maker, uint32_t place)
+{
+    static const uint8_t fields[][2] = {{0, 2}, {2, 1}, {3, 1}, {4, 4}, {4, 4}, {8, 4}, {8, 4}, {12, 4}, {0, 8}, {8, 8}};
+    struct chance *chance = &maker->chance;
+    uint32_t at = place * NIZHALEPU_LOG_RECORD;
+    struct step step;
+    if (chance_one_in(chance, 3)) {
+        step = alteration(LOG, FLIPPED, at + chance_below(chance, NIZHALEPU_LOG_RECORD), 1, 1u << chance_below(chance, 8));
+    } else {
+        const uint8_t *field = fields[chance_below(chance, sizeof fields / sizeof *fields)];
+        step = alteration(LOG, GIVEN, at + field[0], field[1], chance_one_in(chance, 4) ? 0 : chance_next(chance));
+    }
+    steps_add(&maker->row, &step);
+}
+
+void alter_gap(struct maker *maker)
+{
+    alter_record(maker, maker->log / NIZHALEPU_LOG_RECORD - 1);
+}
+
+void alter_written(struct maker *maker)
+{
+    const struct nizhalepu_log *log = &maker->both->record->log;
+    if (log->lost > 0)
+        alter_gap(maker);
+    else if (log->kept > 0)
+        alter_record(maker, (uint32_t)log->kept - 1);
 }
 
 void alter_somewhere(struct maker *maker)

@@ -31,6 +31,11 @@ void make_whole_empty(struct maker *maker); /* the destination fits any log */
 void alter_whole(struct maker *maker, enum area area, enum way way);
 void alter_line(struct maker *maker, enum area area, unsigned line, const uint8_t bytes[LINE_BYTES]);
 void alter_somewhere(struct maker *maker);
+/* In a place of the log, whatever stands there: a field of a record, some bytes of it, or one bit. */
+void alter_record(struct maker *maker, uint32_t place);
+void alter_gap(struct maker *maker); /* in the gap's place */
+/* Only where the row is used up: the record written last, from which the box must take nothing. */
+void alter_written(struct maker *maker);
 
 /* ---- commands.c: whole commands */
 
@@ -43,13 +48,15 @@ void say_walk(struct maker *maker); /* reads, or writes of lines, of addresses o
 void say_bad(struct maker *maker);  /* a read of a Bad line, by digits, I or D, or its execution */
 void say_special(struct maker *maker);
 void say_single(struct maker *maker); /* line 200 or another, and its execution */
+void say_losses(struct maker *maker); /* writes that fill a small log and lose few changes, and its emptying */
+void say_behind_altered(struct maker *maker); /* the record written last altered, and a write that makes the next one */
 void say_noise(struct maker *maker);
 
 /* ---- programs.c: a program, its start and what happens while it runs */
 
 void run_recipe(struct maker *maker);
 void run_on(struct maker *maker);   /* a while of a program that runs or is paused */
-void run_fill(struct maker *maker); /* changes the outputs in every tick, so that any log gets full */
+void run_fill(struct maker *maker); /* changes the outputs in every tick, so that any log gets full and changes are lost */
 
 /* ---- episodes.c */
 

@@ -346,11 +346,12 @@ void run_fill(struct maker *maker)
     say(maker, UNDAMAGED, "CW210001");
     deliver(maker, &program, 0);
     start(maker, 0);
-    unsigned places = maker->log / 12;
+    unsigned places = maker->log / NIZHALEPU_LOG_RECORD;
     make_ticks(maker, places > 20 ? places - 20 : 0);
     for (unsigned n = 0; n < 40; n++) {
         make_ticks(maker, 1);
         if (chance_one_in(chance, 8)) say_read(maker);
+        if (chance_one_in(chance, 6)) alter_gap(maker); /* also where it stands already, between two losses */
     }
     if (chance_one_in(chance, 2)) make_whole_empty(maker);
 }

@@ -135,15 +135,43 @@ static bool print_running(const struct statistics *statistics)
     bool met = true;
     puts("\n  events");
     for (int e = 6; e < EVENTS; e++) met &= class(events[e], statistics->events[e]);
-    puts("\n  running and log");
+    puts("\n  running");
     met &= class("ticks taken when stopped", statistics->ticks[0]);
     met &= class("ticks taken when paused", statistics->ticks[1]);
     met &= class("ticks taken when running", statistics->ticks[2]);
     class("longest run of For and Next lines in a call", statistics->most_lines);
     met &= class("calls with a run of 400", statistics->full_runs);
     met &= print_nones(statistics);
-    met &= class("output changes", statistics->changes);
-    met &= class("gaps begun in the log", statistics->gaps);
+    return met;
+}
+
+static bool print_log(const struct statistics *statistics)
+{
+    static const char *const lents[LENTS] = {
+        [LENT_31] = "power-on with a log of 31 bytes: 031",
+        [LENT_32] = "power-on with a log of 32 bytes",
+        [LENT_33] = "power-on with a log of 33 bytes",
+        [LENT_47] = "power-on with a log of 47 bytes",
+        [LENT_48] = "power-on with a log of 48 bytes",
+        [LENT_65536] = "power-on with a log of 65,536 bytes",
+        [LENT_65537] = "power-on with a log of 65,537 bytes: 031",
+    };
+    static const char *const names[LOGGED] = {
+        [LOGGED_CHANGE] = "changes recorded",
+        [LOGGED_CHANGE_BEHIND_ALTERED] = "changes recorded, the record before altered",
+        [LOGGED_LOSS_FIRST] = "gaps begun",
+        [LOGGED_LOSS_LATER] = "changes lost in a later tick than the first",
+        [LOGGED_LOSS_BACK] = "changes lost, back to the word before the gap",
+        [LOGGED_LOSS_ALTERED] = "changes lost, the gap altered",
+        [LOGGED_LOSS_ALTERED_LATER] = "changes lost in a later tick, the gap altered",
+        [LOGGED_EMPTIED_GAP_OF_1] = "gaps of 1 emptied",
+        [LOGGED_EMPTIED_GAP_BACK] = "gaps of 2 back to the word before, emptied",
+        [LOGGED_EMPTIED_ALTERED] = "altered gaps emptied",
+    };
+    bool met = true;
+    puts("\n  the log");
+    for (int l = 0; l < LENTS; l++) met &= class(lents[l], statistics->lent[l]);
+    for (int l = 0; l < LOGGED; l++) met &= class(names[l], statistics->logged[l]);
     class("most changes lost in one gap", statistics->most_lost);
     class("most bytes in one emptying", statistics->most_written);
     return met;
@@ -205,22 +233,12 @@ static bool print_bad(const struct statistics *statistics)
 
 static bool print_logs(const struct statistics *statistics)
 {
-    static const char *const names[LISTED] = {
-        [LISTED_NONE] = "none at all",
-        [LISTED_CHANGES] = "changes",
-        [LISTED_GAP] = "changes and a gap",
-        [LISTED_MOST_CHANGES] = "5,460 changes",
-        [LISTED_FULL] = "5,460 changes and a gap",
-        [LISTED_E050] = "E050 length not a multiple of 12",
-        [LISTED_E051] = "E051 wrong mark",
-        [LISTED_E052] = "E052 impossible record",
-        [LISTED_E052_OVER] = "E052 and 5,461 records, the last of them no gap",
-        [LISTED_E056] = "E056 too long",
-        [LISTED_NO_ROOM] = "too little room for the text",
-    };
+    static const char *const marks[FORMS + 1] = {
+        [PRESENT] = "logs of the mark 1E E2", [OLDER] = "logs of the older mark 1E E1", [FORMS] = "logs of no such mark, or none at all"};
     bool met = true;
     puts("\n  logs as text");
-    for (int l = 0; l < LISTED; l++) met &= class(names[l], statistics->listed[l]);
+    for (int m = 0; m <= FORMS; m++) met &= class(marks[m], statistics->marks[m]);
+    for (int l = 0; l < LISTED; l++) met &= class(listed_names[l], statistics->listed[l]);
     return met;
 }
 
@@ -230,6 +248,7 @@ bool statistics_print(const struct statistics *statistics)
     met &= print_replies(statistics);
     met &= print_specials(statistics);
     met &= print_running(statistics);
+    met &= print_log(statistics);
     met &= print_bad(statistics);
     met &= print_logs(statistics);
     return met;

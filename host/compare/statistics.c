@@ -212,6 +212,7 @@ static void power_went_on(struct statistics *statistics)
     statistics->last_read = -1;
     statistics->last_write = -1;
     statistics->nones_before = (struct box_nones){0};
+    statistics->altered = false;
     memset(&statistics->before, 0, sizeof statistics->before);
 }
 
@@ -283,8 +284,6 @@ static void count_record(struct statistics *statistics, const struct nizhalepu_r
 {
     const struct nizhalepu_record *before = &statistics->before;
     for (unsigned event = 0; event < EVENTS; event++) statistics->events[event] += raised(before, now, event);
-    if (now->run.outputs != before->run.outputs) statistics->changes++;
-    if (now->log.lost > 0 && before->log.lost == 0) statistics->gaps++;
     if (now->log.lost > statistics->most_lost) statistics->most_lost = now->log.lost;
     statistics->before = *now;
 }
@@ -293,13 +292,17 @@ void statistics_count(struct statistics *statistics, const struct step *step, co
 {
     if (step->kind == ALTER) {
         statistics->met[ALTER][0]++;
+        statistics_altered(statistics, step, both);
         return;
     }
     const struct said *said = &both->said[PROVED];
     unsigned refusal = said->refusal == 0 ? 0 : said->refusal - 29u;
     statistics->calls++;
     if (refusal < REFUSALS) statistics->met[step->kind][refusal]++;
-    if (step->kind == POWER_ON) power_went_on(statistics);
+    if (step->kind == POWER_ON) {
+        power_went_on(statistics);
+        statistics_lent(statistics, step, said->refusal);
+    }
     if (said->refusal != 0) return;
     if (step->kind == POWER_ON) count_copy(statistics, both, BAD_POWERED);
     if (step->kind == TICK) statistics->ticks[state(statistics)]++;
@@ -310,5 +313,6 @@ void statistics_count(struct statistics *statistics, const struct step *step, co
     count_nones(statistics, both);
     count_searches(statistics, both);
     count_stop(statistics, step, both);
+    statistics_logged(statistics, step, both);
     count_record(statistics, both->record);
 }

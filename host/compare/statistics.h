@@ -4,6 +4,7 @@
 
 #include "both.h"
 #include "line.h"
+#include "listed.h"
 
 enum { REFUSALS = 7, ERRORS = 25, CODES = 9, EVENTS = 15, ADDRESSES = 217, STATES = 3, REACHES = 2 };
 
@@ -33,20 +34,22 @@ enum use { USE_READ, USE_RUN, USE_EXECUTED, USE_PASSED, USES };
 /* I and D where nothing was read, or written, since power-on */
 enum first { FIRST_READ_BY_I, FIRST_READ_BY_D, FIRST_WRITE_BY_I, FIRST_WRITE_BY_D, FIRSTS };
 
-/* what the readers of the log make of one */
-enum listed {
-    LISTED_NONE,
-    LISTED_CHANGES,
-    LISTED_GAP,          /* changes and a gap */
-    LISTED_MOST_CHANGES, /* 5,460 changes */
-    LISTED_FULL,         /* 5,460 changes and a gap */
-    LISTED_E050,
-    LISTED_E051,
-    LISTED_E052,
-    LISTED_E052_OVER, /* 5,461 records, of which the last is no gap */
-    LISTED_E056,
-    LISTED_NO_ROOM, /* for the text */
-    LISTED
+/* lengths of the log area at a power-on that is right in all else: the bounds, and lengths between two numbers of whole records */
+enum lent { LENT_31, LENT_32, LENT_33, LENT_47, LENT_48, LENT_65536, LENT_65537, LENTS };
+
+/* what the log met */
+enum logged {
+    LOGGED_CHANGE,       /* that has its record */
+    LOGGED_CHANGE_BEHIND_ALTERED, /* the same, where the caller had altered the record before */
+    LOGGED_LOSS_FIRST,   /* a gap begins */
+    LOGGED_LOSS_LATER,   /* a change lost in a later tick than the first */
+    LOGGED_LOSS_BACK,    /* to the word that stood before the gap */
+    LOGGED_LOSS_ALTERED, /* where the caller had altered the gap */
+    LOGGED_LOSS_ALTERED_LATER, /* the same, in a later tick than the first */
+    LOGGED_EMPTIED_GAP_OF_1,
+    LOGGED_EMPTIED_GAP_BACK, /* of 2, and its word is the word before it */
+    LOGGED_EMPTIED_ALTERED,  /* a gap that the caller had altered */
+    LOGGED
 };
 
 struct statistics {
@@ -63,8 +66,8 @@ struct statistics {
     uint64_t astray; /* what both boxes did and neither paper has: calls.c names it */
     uint64_t ticks[STATES]; /* accepted when stopped, paused, running */
     uint64_t events[EVENTS];
-    uint64_t changes;
-    uint64_t gaps;
+    uint64_t lent[LENTS]; /* 31 and 65,537 refused, the others accepted */
+    uint64_t logged[LOGGED];
     uint64_t full_runs; /* calls that ran 400 For and Next lines */
     uint64_t nones;         /* loops of none passed */
     uint64_t nones_past_199; /* those whose Next is line 199 */
@@ -79,6 +82,7 @@ struct statistics {
     uint64_t reads[ADDRESSES];
     uint64_t writes[ADDRESSES];
     uint64_t listed[LISTED];
+    uint64_t marks[FORMS + 1]; /* logs read, by the first mark; the last are of an unknown one, or of none */
 
     /* what the counting keeps between calls */
     uint8_t characters[33]; /* of the command being collected */
@@ -86,6 +90,9 @@ struct statistics {
     int last_read, last_write; /* addresses; -1 is before 000 */
     struct box_nones nones_before;
     struct nizhalepu_record before;
+    uint32_t first_lost;   /* the tick of the first change lost since emptying */
+    uint32_t word_before;  /* the output word before it */
+    bool altered;          /* the record written last, by the caller since */
 };
 
 /* What is due to a special command in a state: the error, 0 for OK. */
@@ -96,6 +103,13 @@ void statistics_begin(struct statistics *statistics);
 
 /* After a step that found no difference. */
 void statistics_count(struct statistics *statistics, const struct step *step, const struct both *both);
+
+/* ---- logged.c: the part of it about the log */
+
+void statistics_lent(struct statistics *statistics, const struct step *step, unsigned refusal);
+void statistics_altered(struct statistics *statistics, const struct step *step, const struct both *both);
+/* Before `before` moves on. */
+void statistics_logged(struct statistics *statistics, const struct step *step, const struct both *both);
 
 /* The report. True if every class was met. */
 bool statistics_print(const struct statistics *statistics);

@@ -71,7 +71,7 @@ def bad_line_in_a_loop():
         send(f"CR{address}", value)
     send("CW210005", "OK")  # a start on it
     send("CR212", "014")
-    empty(change(1, 0, 5))
+    empty(change(1, 0, 5, 0))
 
 
 def bad_lines_at_edges():

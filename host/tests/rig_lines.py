@@ -17,7 +17,7 @@ def answers(data, want, what):
     check((done.returncode, done.stdout, done.stderr), (0, want, b""), what)
 
 
-on, good = b"on 1600 1600 24", b"0\n"
+on, good = b"on 1600 1600 32", b"0\n"
 answers(b"", b"", "no input")
 answers(on, good, "a last line without its end")
 answers(on + b"\r\n" + on + b"\r", good * 2, "CR LF, and CR at the very end")
@@ -38,7 +38,7 @@ answers(b"set dest 0 " + digits + b"00\nset dest 1 " + digits + b"\nget dest 0 2
 # Each answer comes before the next line is asked for.
 with subprocess.Popen([PROGRAM], stdin=subprocess.PIPE, stdout=subprocess.PIPE) as rig:
     for _ in range(1000):
-        rig.stdin.write(b"ticks 3 1599 24\n")
+        rig.stdin.write(b"ticks 3 1599 32\n")
         rig.stdin.flush()
         check(rig.stdout.readline(), b"30 0\n", "a prompt answer")
 

@@ -3,7 +3,7 @@ becomes one `byte` line for each of its bytes, a reply its hex digits."""
 
 END_MARK = "5300000000000000"
 asked, answers = [], []
-log_length = 24
+log_length = 32
 
 
 def line(text, answer):
@@ -27,7 +27,7 @@ def press(button, lines=0):
     line(f"press {button} 1600 {log_length}", f"0 {lines}")
 
 
-def on(length=24, saved=END_MARK * 200):
+def on(length=32, saved=END_MARK * 200):
     """Power-on with a saved copy; 01's worked points start from 200 end marks."""
     global log_length
     log_length = length
@@ -35,15 +35,17 @@ def on(length=24, saved=END_MARK * 200):
     line(f"on 1600 1600 {length}", "0")
 
 
-def change(cause, ticks, word):
-    return f"1EE101{cause:02X}{ticks:08X}{word:08X}"
+def change(cause, ticks, word, before):
+    """The output word after the change and before it."""
+    return f"1EE201{cause:02X}{ticks:08X}{word:08X}{before:08X}"
 
 
-def gap(ticks, lost):
-    return f"1EE10200{ticks:08X}{lost:08X}"
+def gap(ticks, lost, word):
+    """The tick of the first lost change, and the output word after the last."""
+    return f"1EE20200{ticks:08X}{lost:08X}{word:08X}"
 
 
 def empty(*records):
-    count = 12 * len(records)
+    count = 16 * len(records)
     line(f"empty {log_length} {count}", f"0 {count}")
     line(f"get dest 0 {count}", "".join(records) or "-")

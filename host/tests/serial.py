@@ -12,6 +12,7 @@ import threading
 import time
 
 import serial_bad_lines
+import serial_log_files
 from serial_box import END_MARK, PROGRAM, Box, contents, equal, records, within
 
 
@@ -58,7 +59,7 @@ def ticks_in_time(folder):
     within(ended - started, 0, 10.5, "seconds from after the start to the end mark")
     box.ask("CR212", "011")
     first, last = box.empty()
-    equal((first[0], first[1], first[3], last[0], last[1], last[3]), (1, 0, 1, 1, 1, 0), "the two changes")
+    equal((first[:2] + first[3:], last[:2] + last[3:]), ((1, 0, 1, 0), (1, 1, 0, 1)), "the two changes")
     equal(last[2] - first[2], 100, "ticks between them")
     box.end()
 
@@ -121,7 +122,7 @@ def without_buttons(folder):
         box.ask("CR206", "01")
         box.process.send_signal(number)
         box.end()
-    equal([row[3] for row in records(box.log)], [1, 1, 1], "words logged by three boxes")
+    equal([row[3:] for row in records(box.log)], [(1, 0)] * 3, "words logged by three boxes")
     box = Box(folder, before=lambda: signal.signal(signal.SIGHUP, signal.SIG_IGN))  # as nohup does
     box.process.send_signal(signal.SIGHUP)
     time.sleep(0.3)
@@ -151,7 +152,7 @@ def emptying(folder):
     box.ask("CW20601", "OK")
     box.ask("CW20480", "OK")
     rows = box.empty()
-    equal([row[:2] + row[3:] for row in rows], [(1, 255, 1), (1, 255, 0x800001)], "records")
+    equal([row[:2] + row[3:] for row in rows], [(1, 255, 1, 0), (1, 255, 0x800001, 1)], "records")
     equal(box.empty(), rows, "emptied again")
     box.ask("CW20600", "OK")
     box.end()
@@ -160,27 +161,27 @@ def emptying(folder):
     box.ask("CW200S00000000070000", "OK")
     box.ask("CW210006", "OK")
     box.end()
-    equal([row[:2] + row[3:] for row in records(box.log)][2:], [(1, 255, 0x800000), (1, 254, 7)], "records")
+    equal([row[:2] + row[3:] for row in records(box.log)][2:], [(1, 255, 0x800000, 0x800001), (1, 254, 7, 0)], "records")
 
 
 def emptied_in_time(folder):
     """A log of two places would make a gap of the second change; it is emptied before, and before the reply."""
-    box = Box(folder, "--log-area", "24")
+    box = Box(folder, "--log-area", "32")
     for number in range(1, 51):
         box.ask(f"CW206{number:02X}", "OK")
-    equal([row[:2] + row[3:] for row in records(box.log)], [(1, 255, number) for number in range(1, 51)], "records")
+    equal([row[:2] + row[3:] for row in records(box.log)], [(1, 255, number, number - 1) for number in range(1, 51)], "records")
     box.end()
 
 
 def log_refused(folder):
     """A log file that takes no more: the box says so, shows the records, leaves whole ones and ends with status 1."""
-    box = Box(folder, "--log-area", "24", before=lambda: resource.setrlimit(resource.RLIMIT_FSIZE, (30, 30)))
+    box = Box(folder, "--log-area", "32", before=lambda: resource.setrlimit(resource.RLIMIT_FSIZE, (40, 40)))
     box.ask("CW20601", "OK")
     box.ask("CW20602", "OK")
     box.send(b"CW20603\r")
     messages = box.end(1)
     equal([row[3] for row in records(box.log)], [1, 2], "records in the file")
-    shown = [text for text in messages.splitlines() if text.startswith("1EE101FF") and text.endswith("00000003")]
+    shown = [text for text in messages.splitlines() if text.startswith("1EE201FF") and text.endswith("0000000300000002")]
     equal(len(shown), 1, "the third record in the messages: " + messages)
 
 
@@ -191,7 +192,7 @@ def log_removed(folder):
     os.remove(box.log)
     box.command("empty")
     messages = box.end(1)
-    equal("000000A5\n" in messages, True, "the record in the messages: " + messages)
+    equal("000000A500000000\n" in messages, True, "the record in the messages: " + messages)
     equal(os.path.exists(box.log), False, "a log file")
 
 
@@ -209,8 +210,8 @@ def save_refused(folder):
 
 
 def wrong_files(folder):
-    """A saved copy or a log of a wrong length, and a log in use, are refused and left as they are."""
-    for name, sizes in (("saved", (0, 1, 1599, 1601, 3200)), ("log", (1, 11, 13))):
+    """A saved copy of a wrong length, a log that is none and a log in use are refused and left as they are."""
+    for name, sizes in (("saved", (0, 1, 1599, 1601, 3200)), ("log", (1, 2, 16, 48))):
         path = os.path.join(folder, name)
         for size in sizes:
             with open(path, "wb") as file:
@@ -236,8 +237,8 @@ def wrong_files(folder):
 
 
 def wrong_options(folder):
-    for options in (["--log-area", "23"], ["--log-area", "65537"], ["--log-area", ""], ["--log-area", "99999999999999999999"],
-                    ["--log-area", "-1"], ["--none"], ["word"], ["--saved"]):
+    for options in (["--log-area", "31"], ["--log-area", "24"], ["--log-area", "65537"], ["--log-area", ""],
+                    ["--log-area", "99999999999999999999"], ["--log-area", "-1"], ["--none"], ["word"], ["--saved"]):
         Box(folder, *options).end(2)
     box = subprocess.run([PROGRAM, "--help"], capture_output=True, check=True)
     equal(box.stdout.startswith(b"usage: serialbox"), True, "help")
@@ -313,7 +314,8 @@ def flood(folder):
 
 
 CASES = [exchange, download, every_byte, ticks_in_time, tick_count, buttons, without_buttons, saving, emptying, emptied_in_time, log_refused,
-         log_removed, save_refused, wrong_files, wrong_options, killed_in_saves, slow_reader, flood, *serial_bad_lines.CASES]
+         log_removed, save_refused, wrong_files, wrong_options, killed_in_saves, slow_reader, flood, *serial_bad_lines.CASES,
+         *serial_log_files.CASES]
 
 if __name__ == "__main__":
     if PROGRAM == "--list":

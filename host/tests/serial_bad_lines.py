@@ -123,7 +123,7 @@ def bad_line_met(folder):
     for command, reply in (("CR211", "001"), ("CR206", "05"), ("CR201", "00"), ("CW209001", "OK"), ("CW210006", "OK"), ("CR206", "05"),
                            ("CR211", "001"), ("CW209199", "OK"), ("CW210005", "OK"), ("CR201", "80"), ("CR212", "014"), ("CR211", "199")):
         box.ask(command, reply)
-    equal([row[:2] + row[3:] for row in box.empty()], [(1, 0, 5)], "records")
+    equal([row[:2] + row[3:] for row in box.empty()], [(1, 0, 5, 0)], "records")
     box.ask("CW210008", "OK")
     equal(contents(box.saved), data, "saved copy")
     box.ask("CW001S00000000000000", "OK")

@@ -91,10 +91,10 @@ def contents(path):
 
 
 def records(path):
-    """The log file as (kind, cause, tick, value)."""
+    """The log file as (kind, cause, tick, value, word)."""
     data = contents(path)
-    equal(len(data) % 12, 0, "length of the log file in records")
-    rows = [data[i:i + 12] for i in range(0, len(data), 12)]
+    equal(len(data) % 16, 0, "length of the log file in records")
+    rows = [data[i:i + 16] for i in range(0, len(data), 16)]
     for row in rows:
-        equal(row[:2], b"\x1e\xe1", "mark")
-    return [(row[2], row[3], int.from_bytes(row[4:8], "big"), int.from_bytes(row[8:], "big")) for row in rows]
+        equal(row[:2], b"\x1e\xe2", "mark")
+    return [(row[2], row[3], *(int.from_bytes(row[i:i + 4], "big") for i in (4, 8, 12))) for row in rows]

@@ -38,4 +38,4 @@ quiet c n a = record { state = c; refusal = 0; lines = 0; written = n; areas = a
 
 -- what was done, logged and answered
 abbrev pub acceptedBy : ℕ → ℕ → Deed → After
-acceptedBy before cause x = accepted x (loggedBy before (changed cause (x .state)) (x .state .log) (x .areas .log))
+acceptedBy before cause x = accepted x (loggedBy (changed before cause (x .state)) (x .state .log) (x .areas .log))

@@ -42,22 +42,22 @@ differs before word = not (eqb before word)
 abbrev pub cause : Res Asked → ℕ → ℕ
 cause command line = if writesOutputs command then 255 else if eqb (specialCode command) 6 then 254 else line
 
--- "tick count", the count after the call; "value is the new word"; the line is that after the call, which set the word
-abbrev pub changed : ℕ → Controller → Change
-changed cause after = record { cause = cause; tick = after .ticks; word = after .run .outputs }
+-- "tick count", the count after the call; "value is the new word"; 02, item 8: "the word before the change", the outputs' own
+abbrev pub changed : ℕ → ℕ → Controller → Change
+changed before cause after = record { cause = cause; tick = after .ticks; word = after .run .outputs; before = before }
 
--- of a call made with the state `before` and the areas `lent`
+-- of a call made with the state c and the areas `lent`; the line is that after the call, which set the word
 abbrev pub changeOf : Call → Controller → Areas → Controller → Change
-changeOf k before lent after = changed (cause (finished k before lent) (after .run .line)) after
+changeOf k c lent after = changed (startsFrom k c .run .outputs) (cause (finished k c lent) (after .run .line)) after
 
--- the log and its area, where the word before the call was `before`
-abbrev pub loggedBy : ℕ → Change → Log → List ℕ → Logged
-loggedBy before change log area =
-    if differs before (change .word) then addChange log area change else record { log = log; area = area }
+-- the log and its area, with the change in it, if it is one
+abbrev pub loggedBy : Change → Log → List ℕ → Logged
+loggedBy change log area =
+    if differs (change .before) (change .word) then addChange log area change else record { log = log; area = area }
 
 -- the log and its area after an accepted call that did x
 unfoldable pub logged : Call → Controller → Areas → Deed → Logged
-logged k c a x = loggedBy (startsFrom k c .run .outputs) (changeOf k c a (x .state)) (x .state .log) (x .areas .log)
+logged k c a x = loggedBy (changeOf k c a (x .state)) (x .state .log) (x .areas .log)
 
 -- ---- answered
 

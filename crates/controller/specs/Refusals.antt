@@ -23,7 +23,7 @@ pub data Call : Type 0 where
 abbrev pub isProgram : List ℕ → Bool
 isProgram area = eqb (length area) 1600
 
--- 031 "log area under 24 or over 65,536 bytes, or not the length given at power-on"
+-- 031 "log area under 24 or over 65,536 bytes, or not the length given at power-on"; 02, item 8: "The smallest log area is 32 bytes"
 abbrev pub isLog : List ℕ → Bool
 isLog area = isArea (length area)
 

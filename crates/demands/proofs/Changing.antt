@@ -30,7 +30,7 @@ use Rattle.demands.proofs.Steps.{deed, left}
 
 -- the change from one word to another, if they differ
 abbrev pub changing : ℕ → ℕ → ℕ → ℕ → List Change
-changing before word by at = if eqb before word then [] else record { cause = by; tick = at; word = word } ∷ []
+changing before word by at = if eqb before word then [] else record { cause = by; tick = at; word = word; before = before } ∷ []
 
 -- the history's cause is the box's
 pub cause-as-told : {r : Res Asked} {s : Said} (line : ℕ) → Hears r s → causeOf s line ≡ cause r line

@@ -7,8 +7,10 @@ use mathlib.Core.List.{List, [], _∷_}
 use Prim.Native.Nat.{ℕ}
 use Rattle.formats.specs.Bytes.{areBytes}
 use Rattle.formats.proofs.Checks.{all-front}
-use Rattle.reader.specs.Produced.{Produced, Accepted}
-use Rattle.reader.proofs.Exactly.{accepts-exactly}
+use Rattle.reader.specs.declared.Layout.the-variants.{Sixteen}
+use Rattle.reader.specs.Layout.{layoutOf}
+use Rattle.reader.specs.Produced.{Produced, AcceptedLog}
+use Rattle.reader.proofs.Exactly.{accepts-new}
 use Rattle.demands.specs.Histories.{powering, emptyingTo}
 use Rattle.demands.specs.LentBytes.{lendsBytes}
 use Rattle.demands.specs.Sent.{Emptied}
@@ -16,13 +18,14 @@ use Rattle.demands.proofs.LogReads as LogReads
 use Rattle.demands.proofs.MadeByCalls.{produced-emptied}
 
 -- What a box gives, the log rule can produce.
-gives-produced : (bs : List ℕ) → Emptied bs → Produced bs
+gives-produced : (bs : List ℕ) → Emptied bs → Produced Sixteen bs
 gives-produced bs e =
     let bytes = all-front lendsBytes (powering (e .first) ∷ e .later) (emptyingTo (e .last) ∷ []) (e .bytes) in
-    subst Produced (e .gives) (LogReads.emptied-produced [] (e .first) (e .later) (e .hands) (e .last) (e .handed) (e .taken) bytes)
+    subst (Produced Sixteen) (e .gives) (LogReads.emptied-produced [] (e .first) (e .later) (e .hands) (e .last) (e .handed) (e .taken) bytes)
 
--- A string of bytes is accepted if and only if a box gives it, after some calls.
-pub gives-exactly : (bs : List ℕ) → ((areBytes bs ≡ true) × Accepted bs → Emptied bs) × (Emptied bs → (areBytes bs ≡ true) × Accepted bs)
+-- A string of bytes that does not begin with the older mark is accepted if and only if a box gives it, after some calls; a box gives no other.
+pub gives-exactly : (bs : List ℕ) → ((areBytes bs ≡ true) × AcceptedLog bs × (layoutOf bs ≡ Sixteen) → Emptied bs)
+    × (Emptied bs → (areBytes bs ≡ true) × AcceptedLog bs × (layoutOf bs ≡ Sixteen))
 gives-exactly bs =
-    let exactly = accepts-exactly bs in
+    let exactly = accepts-new bs in
     (λ a. produced-emptied bs (exactly .0 a), λ e. exactly .1 (gives-produced bs e))

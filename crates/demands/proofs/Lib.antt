@@ -15,6 +15,7 @@ pub mod Changing
 pub mod LogTells
 pub mod LogLeft
 pub mod Words
+pub mod Leading
 pub mod Possible
 pub mod LogReads
 pub mod Taken
@@ -29,6 +30,7 @@ pub mod Switched
 pub mod OneByte
 pub mod MadeByCalls
 pub mod Exactly
+pub mod LogWords
 pub mod Due
 pub mod Specials
 pub mod BadLines

@@ -22,11 +22,11 @@ use Rattle.controller.specs.Controller.{Areas, fresh}
 use Rattle.controller.specs.Deeds.{writing, load, emptyLog, powerUp}
 use Rattle.controller.specs.Refusals.{Call, powerOn, byte, tick, press, emptying}
 use Rattle.controller.specs.Effects.{isPowerOn}
-use Rattle.controller.specs.Calls.{After, does, changeOf, logged}
+use Rattle.controller.specs.Calls.{After, does, logged}
 use Rattle.controller.specs.Invariant.{Invariant}
 use Rattle.controller.proofs.Invariant.{fresh-invariant}
 use Rattle.controller.proofs.Refusals.{checked-log, area-long, log-long}
-use Rattle.controller.proofs.Logging.{Ordinary, aByte, aTick, aPress, does-log, logged-is, logged-length}
+use Rattle.controller.proofs.Logging.{Ordinary, aByte, aTick, aPress, ordinaryChange, does-log, logged-is, logged-length}
 use Rattle.demands.specs.Histories.{Made, emptyingTo, Held, unpowered, outcome, isAccepted, next, after}
 use Rattle.demands.specs.Seen.{isTaken, seen, note, notes}
 use Rattle.demands.specs.Told.{Told, powered, tell, told}
@@ -66,7 +66,7 @@ module _ (t : Told) (h : Held) (m : Made) (g : Agrees t (h .state)) (i : Invaria
   logs ok (passes _ ch e f) =
       let enough = log-long (h .state) (m .areas .log) (checked-log (m .call) (h .state) (m .areas) other ch) .0 in
       let x = deed h m .state in
-      let two = by-test cs (h .state .log) (m .areas .log) (changeOf (m .call) (h .state) (m .areas) x) enough (counts-of cs (h .state) n enough)
+      let two = by-test cs (h .state .log) (m .areas .log) (ordinaryChange (m .call) (h .state) (m .areas) x) enough (counts-of cs (h .state) n enough)
       (eqb (h .state .run .outputs) (x .run .outputs)) (logged (m .call) (h .state) (m .areas) (deed h m)) (logged-is (m .call) (h .state) (m .areas) o) in
       let same = change-as-told t h m g i other ok ch e in (
         rw same (two .0),

@@ -13,15 +13,18 @@ use Rattle.formats.proofs.Checks.{both-true}
 use Rattle.log.specs.Record.{isArea}
 use Rattle.log.specs.Log.{places, history}
 use Rattle.reader.specs.declared.Record.{Record}
-use Rattle.reader.specs.Reading.{reading}
+use Rattle.reader.specs.declared.Layout.the-variants.{Sixteen}
+use Rattle.reader.specs.Layout.{layoutOf}
+use Rattle.reader.specs.Reading.{readingAs, reading}
 use Rattle.reader.specs.Listing.{linesOf, printed, listing}
 use Rattle.reader.specs.Produced.{isSize, Produced, recordsFor, Tells}
 use Rattle.reader.proofs.Accepts.{area-size, reads-history}
+use Rattle.reader.proofs.Exactly.{produced-layout}
 use Rattle.controller.specs.Controller.{Areas}
 use Rattle.controller.specs.Refusals.{emptying}
 use Rattle.controller.proofs.Refusals.{accepted-call}
 use Rattle.demands.specs.Histories.{Made, powering, emptyingTo, unpowered, outcome, after, HandsOn, AllHandOn}
-use Rattle.demands.specs.Seen.{isTaken, seen}
+use Rattle.demands.specs.Seen.{isTaken, seen, emptiedBy}
 use Rattle.demands.specs.Told.{told}
 use Rattle.demands.specs.Changes.{changes}
 use Rattle.demands.specs.LentBytes.{lendBytes}
@@ -31,7 +34,7 @@ use Rattle.demands.proofs.LogTells.{emptying-tells}
 use Rattle.demands.proofs.Possible.{changes-possible}
 
 -- the log that an emptying is taken with has as many places as a reader's size
-emptied-size : (ms : List Made) (a : Areas) → isTaken (seen ms (emptyingTo a)) ≡ true → isSize (places (told ms .logLength)) ≡ true
+pub emptied-size : (ms : List Made) (a : Areas) → isTaken (seen ms (emptyingTo a)) ≡ true → isSize Sixteen (places (told ms .logLength)) ≡ true
 unfolding seen outcome
 emptied-size ms a ok =
     let c = after unpowered ms .state in
@@ -47,8 +50,8 @@ module _ (before : List Made) (lent : Areas) (ms : List Made) (hands : AllHandOn
 
   module _ (a : Areas) (hand : HandsOn (after unpowered now) (emptyingTo a)) (ok : isTaken (seen now (emptyingTo a)) ≡ true)
       (bytes : lendBytes now ≡ true) where
-    abbrev pub given : List ℕ
-    given = take (seen now (emptyingTo a) .written) (seen now (emptyingTo a) .areas .out)
+    abbrev given : List ℕ
+    given = emptiedBy now a
 
     abbrev R : ℕ
     R = places (told now .logLength)
@@ -61,7 +64,7 @@ module _ (before : List Made) (lent : Areas) (ms : List Made) (hands : AllHandOn
         ∙ take-at log (drop (length log) (a .out)) (seen now (emptyingTo a) .written) (sym (both .1))
 
     -- The bytes that an emptying which is taken gives are such as the log rule can produce.
-    pub emptied-produced : Produced given
+    pub emptied-produced : Produced Sixteen (emptiedBy now a)
     emptied-produced = record {
       R = R;
       size = emptied-size now a ok;
@@ -70,14 +73,20 @@ module _ (before : List Made) (lent : Areas) (ms : List Made) (hands : AllHandOn
       log = given-is;
     }
 
-    -- They are read, and the records read tell of each change since power-on or the last emptying, in order, or of the first of them and of how
-    -- many were lost.
-    pub emptied-reads : (rs : List Record) × (reading given ≡ passed rs) × Tells (places (told now .logLength)) (changes now) rs
+    -- They do not begin with the older mark.
+    given-layout : layoutOf given ≡ Sixteen
+    given-layout = produced-layout given emptied-produced
+
+    -- They are read, and the records read tell of each change since power-on or the last emptying, in order, or of the first of them, of how
+    -- many were lost, of the tick of the first lost and of the word after the last.
+    pub emptied-reads : (rs : List Record) × (reading (emptiedBy now a) ≡ passed rs) × Tells Sixteen (places (told now .logLength)) (changes now) rs
     emptied-reads =
-        let read = reads-history R (changes now) (emptied-size now a ok) (changes-possible now bytes) in
-        (read .0, ap reading given-is ∙ read .1, read .2)
+        let read = reads-history Sixteen R (changes now) (emptied-size now a ok) (changes-possible now bytes) in
+        let mark : reading given ≡ readingAs Sixteen given = ap (λ m. readingAs m given) given-layout in
+        (read .0, mark ∙ ap (readingAs Sixteen) given-is ∙ read .1, read .2)
 
     -- So their text is a line for each of those changes, and one for the gap.
-    pub emptied-lists : listing given ≡ linesOf (recordsFor (places (told now .logLength)) (changes now))
+    pub emptied-lists : listing (emptiedBy now a) ≡ linesOf Sixteen (recordsFor Sixteen (places (told now .logLength)) (changes now))
     unfolding listing printed
-    emptied-lists = ap printed (emptied-reads .1) ∙ ap linesOf (emptied-reads .2 .records)
+    emptied-lists =
+        ap (λ m. printed m (reading given)) given-layout ∙ ap (printed Sixteen) (emptied-reads .1) ∙ ap (linesOf Sixteen) (emptied-reads .2 .records)

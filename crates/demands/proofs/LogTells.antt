@@ -20,9 +20,9 @@ use Rattle.controller.specs.Deeds.{over, writing, load, emptyLog, powerUp}
 use Rattle.controller.specs.Refusals.{Call, powerOn, byte, tick, press, emptying, isSameLog}
 use Rattle.controller.specs.Effects.{isPowerOn}
 use Rattle.controller.specs.Invariant.{Invariant}
-use Rattle.controller.specs.Calls.{After, does, changeOf, logged}
+use Rattle.controller.specs.Calls.{After, does, logged}
 use Rattle.controller.proofs.Refusals.{checked-log, area-long, log-long, accepted-call}
-use Rattle.controller.proofs.Logging.{Ordinary, aByte, aTick, aPress, logged-is}
+use Rattle.controller.proofs.Logging.{Ordinary, aByte, aTick, aPress, ordinaryChange, logged-is}
 use Rattle.demands.specs.Histories.{Made, powering, emptyingTo, Held, unpowered, outcome, isAccepted, next, after, HandsOn, AllHandOn}
 use Rattle.demands.specs.Seen.{isTaken, seen, note, notes}
 use Rattle.demands.specs.Told.{Told, powered, tell, tellAll, told}
@@ -65,7 +65,7 @@ module _ (t : Told) (h : Held) (m : Made) (g : Agrees t (h .state)) (i : Invaria
           let held = held-by cs h (m .areas .log) tl (checked-log (m .call) (h .state) (m .areas) other ch) (hands .log other ok) in
           rw (f, change-as-told t h m g i other ok ch e)
           (tells (by-test cs (eqb (h .state .run .outputs) (x .state .run .outputs)) (h .state .log) (m .areas .log)
-          (changeOf (m .call) (h .state) (m .areas) (x .state))
+          (ordinaryChange (m .call) (h .state) (m .areas) (x .state))
           (logged (m .call) (h .state) (m .areas) x) held (logged-is (m .call) (h .state) (m .areas) o)))
 
 -- power-on begins a log, or leaves none

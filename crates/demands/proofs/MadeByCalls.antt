@@ -3,21 +3,22 @@
 use mathlib.Core.Path.{_≡_, refl, sym, ap, ap₂, subst, _∙_}
 use Prim.Native.Nat.{ℕ, zero, suc, _+_, _*_, _-_, _^_, _≤_, _<_}
 use native.Mathlib.Omega.{arith}
-use mathlib.Core.Bool.{true, false, not, _||_, true≢false}
+use mathlib.Core.Bool.{true, false, _||_, true≢false}
 use mathlib.Core.List.{List, [], _∷_, _++_, append-nil, append-assoc}
 use lib.ListN.{length, take}
 use lib.Seq.{take-append-seam}
 use lib.Dec.{eqb, leb, ltb}
 use borrow.Author.Tests.{eq-eqb, le-leb, leb-true, eqb-true, ltb-true}
 use Rattle.formats.specs.Checks.{_>>_, _orElse_}
-use Rattle.formats.proofs.Checks.{if-case, both-true, either-true, all-append, or-true}
+use Rattle.formats.proofs.Checks.{if-case, both-true, either-true, all-append}
 use Rattle.running.specs.declared.Run.{Run}
 use Rattle.running.specs.Running as Running
 use Rattle.log.specs.declared.Change.{Change}
 use Rattle.log.specs.Record.{recordSize, leastArea, mostArea, isArea}
 use Rattle.log.specs.Log.{places, emptied, history}
-use Rattle.reader.specs.Possible.{lastOf, areNext, arePossible}
-use Rattle.reader.specs.Reading.{mostRecords}
+use Rattle.reader.specs.declared.Layout.the-variants.{Sixteen}
+use Rattle.reader.specs.Possible.{lastOf, inOneByte, areNext, arePossible}
+use Rattle.reader.specs.Layout.{mostRecords}
 use Rattle.reader.specs.Produced.{Produced}
 use Rattle.formats.specs.Bytes.{areBytes}
 use Rattle.reader.proofs.Possible.{Follows, Fitting, next-says, says-next, possible-says}
@@ -45,7 +46,7 @@ use Rattle.demands.proofs.Steps.{heldThen, Step, passes, fails, stepped
 use Rattle.demands.proofs.Sending.{length-zeros, Leads, none, more, leads-append, leads-told, leads-taken}
 use Rattle.demands.proofs.Sending.{leads-bytes, makes-hands, Fit, Taken, tick-taken, emptying-taken, fit-next, call-changes}
 use Rattle.demands.proofs.Switched.{Ready, Reaches, reaches-then, by-line, by-execution, by-write}
-use Rattle.demands.proofs.OneByte.{byte-write, neighbour, neighbour-near}
+use Rattle.demands.proofs.OneByte.{byte-write}
 
 -- ---- ticks, while no program runs
 
@@ -188,8 +189,8 @@ module _ (n : ℕ) (size : isArea n ≡ true) where
 -- ---- one change, and a list of them
 
 -- the change to another word
-changes-to : (c : Change) (w by : ℕ) → eqb w (c .word) ≡ false → c .cause ≡ by → changing w (c .word) by (c .tick) ≡ c ∷ []
-changes-to c w by other e = rw (other, ← e)
+changes-to : (c : Change) (w by : ℕ) → w ≡ c .before → Fitting c → c .cause ≡ by → changing w (c .word) by (c .tick) ≡ c ∷ []
+changes-to c w by from f e = ap (λ v. changing v (c .word) by (c .tick)) from ∙ rw (f .leads .other, ← e)
 
 -- a change that can come next is made
 makes-one : (n : ℕ) {h : Held} (p c : Change) → Ready n (p .word) (p .tick) h → Fitting c → Follows p c → (cs : List Change)
@@ -210,11 +211,12 @@ makes-one n {h} p c r fits f cs = reaches-then waited (go (waited .ready))
         let Goal : List Change → Type 0 = λ ds. Reaches n cs g (cs ++ ds) (c .word) (c .tick) in
         either-true (ltb (c .cause) 200 || eqb (c .cause) 254) (eqb (c .cause) 255) (fits .cause)
         (λ e. either-true (ltb (c .cause) 200) (eqb (c .cause) 254) e
-        (λ l. subst Goal (changes-to c (p .word) (c .cause) (f .other) refl) (by-line q cs (c .cause) (c .word) (ltb-true (c .cause) 200 l) word))
-        (λ x. subst Goal (changes-to c (p .word) 254 (f .other) (eqb-true (c .cause) 254 x)) (by-execution q cs 0 (c .word) (omega arith) word)))
+        (λ l. subst Goal (changes-to c (p .word) (c .cause) (f .joined) fits refl) (by-line q cs (c .cause) (c .word) (ltb-true (c .cause) 200 l) word))
+        (λ x. subst Goal (changes-to c (p .word) 254 (f .joined) fits (eqb-true (c .cause) 254 x)) (by-execution q cs 0 (c .word) (omega arith) word)))
         (λ o.
-        let b = byte-write (p .word) (c .word) (fits .word) (rw o at (f .written)) in
-        subst Goal (changes-to c (p .word) 255 (f .other) (eqb-true (c .cause) 255 o))
+        let one : inOneByte (c .before) (c .word) ≡ true = rw o at (fits .leads .written) in
+        let b = byte-write (p .word) (c .word) (fits .word) (ap (λ v. inOneByte v (c .word)) (f .joined) ∙ one) in
+        subst Goal (changes-to c (p .word) 255 (f .joined) fits (eqb-true (c .cause) 255 o))
         (subst (λ v. Reaches n cs g (cs ++ changing (p .word) v 255 (c .tick)) v (c .tick)) (b .is) (by-write q cs (b .k) (b .x) (b .low) (b .high) (b .fits))))
 
 -- so are all that can come next after p
@@ -231,14 +233,12 @@ makes-all n {h} p (c ∷ ds) r e cs =
 -- ---- the theorem
 
 -- a change that the first one can follow
-abbrev before : Change → Change
-before c = record { cause = 0; tick = 0; word = neighbour (c .word) }
+abbrev earlier : Change → Change
+earlier c = record { cause = 0; tick = 0; word = c .before; before = 0 }
 
 -- the first change follows it
-first-follows : (c : Change) → Fitting c → Follows (before c) c
-first-follows c f =
-    let m = neighbour-near (c .word) (f .word) in
-    record { later = omega arith; other = m .other; written = rw (m .oneByte) (or-true (not (eqb (c .cause) 255))) }
+first-follows : (c : Change) → Follows (earlier c) c
+first-follows c = record { later = omega arith; joined = refl }
 
 -- after power-on, with a log area of n bytes, calls lead to where the changes cs are told
 record Found (n : ℕ) (size : isArea n ≡ true) (cs : List Change) : Type 0 where
@@ -253,10 +253,9 @@ module _ (n : ℕ) (size : isArea n ≡ true) where
       record { word = 0; tick = 0; reaches = record { calls = []; held = powered-held n size; leads = none [] _; ready = powered-ready n size } }
   found (c ∷ cs) e =
       let x = possible-says c cs e in
-      let m = neighbour-near (c .word) (x .0 .word) in
-      let set = by-execution (powered-ready n size) [] 0 (neighbour (c .word)) (omega arith) (omega (arith, m .fits)) in
-      let made = makes-all n (before c) (c ∷ cs) (emptied-ready (set .ready))
-      (says-next (before c) c cs (record { fitting = x .0; after = first-follows c (x .0); more = x .1 })) [] in
+      let set = by-execution (powered-ready n size) [] 0 (c .before) (omega arith) (omega (arith, x .0 .before)) in
+      let made = makes-all n (earlier c) (c ∷ cs) (emptied-ready (set .ready))
+      (says-next (earlier c) c cs (record { fitting = x .0; after = first-follows c; more = x .1 })) [] in
       record {
         word = _;
         tick = _;
@@ -330,12 +329,12 @@ module _ (n : ℕ) (size : isArea n ≡ true) where
         }
 
 -- Every byte string that the log rule can produce is given by an emptying of some box.
-pub produced-emptied : (bs : List ℕ) → Produced bs → Emptied bs
+pub produced-emptied : (bs : List ℕ) → Produced Sixteen bs → Emptied bs
 produced-emptied bs p =
     let R = p .R in
-    let s = both-true (leb 2 R) (leb R mostRecords) (p .size) in
+    let s = both-true (leb 2 R) (leb R (mostRecords Sixteen)) (p .size) in
     let lo : 2 ≤ R = leb-true 2 R (s .0) in
-    let hi : R ≤ 5461 = leb-true R mostRecords (s .1) in
+    let hi : R ≤ 4096 = leb-true R (mostRecords Sixteen) (s .1) in
     let size : isArea (recordSize * R) ≡ true = rw (le-leb leastArea (recordSize * R) (omega arith), le-leb (recordSize * R) mostArea (omega arith)) in
     let same : places (recordSize * R) ≡ R = omega arith in
     subst Emptied (ap (λ m. history m (p .changes)) same ∙ sym (p .log)) (possible-emptied (recordSize * R) size (p .changes) (p .possible))

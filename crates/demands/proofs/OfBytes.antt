@@ -13,8 +13,8 @@ use Rattle.formats.proofs.Digits.{isBelow, digits-below}
 use Rattle.log.specs.declared.Change.{Change}
 use Rattle.log.specs.declared.Log.{Log}
 use Rattle.log.specs.Record.{recordSize, changeRecord, gapRecord}
-use Rattle.log.specs.Log.{R, Logged, oneMoreLost, addChange}
-use Rattle.reader.proofs.Bytes.{record-bytes}
+use Rattle.log.specs.Log.{R, Logged, oneMoreLost, firstLost, addChange}
+use Rattle.reader.proofs.Bytes.{new-record-bytes}
 use Rattle.demands.specs.Sent.{zeros}
 
 -- numbers in bytes, and zeros
@@ -43,5 +43,5 @@ pub added-bytes : (l : Log) (area : List ℕ) (c : Change) → c .cause < 256 �
 unfolding addChange changeRecord gapRecord
 added-bytes l area c lt e =
     if-case (λ (x : Logged). areBytes (x .area) ≡ true) (ltb (l .kept + 1) (R l))
-    (λ _. placed-bytes recordSize (l .kept) _ area (record-bytes 1 (c .cause) (c .tick) (c .word) (omega arith) lt) e)
-    (λ _. placed-bytes recordSize (l .kept) _ area (record-bytes 2 0 (c .tick) (oneMoreLost (l .lost)) (omega arith) (omega arith)) e)
+    (λ _. placed-bytes recordSize (l .kept) _ area (new-record-bytes 1 (c .cause) (c .tick) (c .word) (c .before) (omega arith) lt) e)
+    (λ _. placed-bytes recordSize (l .kept) _ area (new-record-bytes 2 0 (firstLost l c) (oneMoreLost (l .lost)) (c .word) (omega arith) (omega arith)) e)

@@ -1,18 +1,15 @@
--- Words that differ in one of their four bytes: a write to 203-206 leads from one to the other, and every word has such a neighbour.
+-- Words that differ in one of their four bytes: a write to 203-206 leads from one to the other.
 -- Assumes nothing.
 use mathlib.Core.Path.{_≡_, refl, sym, ap, ap₂, _∙_}
-use mathlib.Core.Logic.{_≢_}
-use Prim.Native.Nat.{ℕ, suc, _+_, _-_, _/_, _%_, _≤_, _<_}
+use Prim.Native.Nat.{ℕ, suc, _+_, _-_, _≤_, _<_}
 use native.Mathlib.Omega.{arith}
 use mathlib.Core.Bool.{Bool, true, false}
 use mathlib.Core.List.{List, [], _∷_}
 use lib.ListN.{length, getD, set}
 use lib.Dec.{eqb}
-use borrow.Author.Tests.{eq-eqb, ne-eqb, eqb-true, eqb-false, ltb-true}
-use Rattle.formats.specs.Checks.{if_then_else_}
-use Rattle.formats.specs.Digits.{digits, number}
+use borrow.Author.Tests.{eqb-true, ltb-true}
+use Rattle.formats.specs.Digits.{number}
 use Rattle.formats.specs.Bytes.{bytes}
-use Rattle.formats.proofs.Checks.{if-case}
 use Rattle.formats.proofs.Digits.{isBelow, all-getD, length-digits, digits-below, number-digits}
 use Rattle.variables.specs.Variables.{withOutputByte}
 use Rattle.reader.proofs.OneByte.{differing-none}
@@ -64,38 +61,3 @@ byte-write w v le e =
       fits = ltb-true _ 256 (all-getD (isBelow 256) i (bytes 4 v) (p .inside) (digits-below 256 (omega arith) 4 v));
       is = ap (λ j. number 256 (set (bytes 4 w) j (getD (bytes 4 v) i 0))) at ∙ ap (number 256) (p .is) ∙ number-digits 256 (omega arith) 4 v (omega arith);
     }
-
--- a word that differs from w in its lowest byte
-abbrev pub neighbour : ℕ → ℕ
-neighbour w = if eqb (w % 256) 0 then w + 1 else w - 1
-
--- v is such a word
-pub record Near (w v : ℕ) : Type 0 where
-  pub fits : v ≤ mostNumber
-  pub other : eqb v w ≡ false
-  pub oneByte : inOneByte v w ≡ true
-
--- words with the same bytes but the lowest
-near : (w v : ℕ) → v ≤ mostNumber → v / 256 ≡ w / 256 → v ≢ w → Near w v
-unfolding inOneByte digits
-near w v le high ne =
-    let low : eqb (v % 256) (w % 256) ≡ false = ne-eqb (v % 256) (w % 256) (λ e. ne (omega arith)) in
-    record {
-      fits = le;
-      other = ne-eqb v w ne;
-      oneByte =
-          rw (
-            high,
-            low,
-            eq-eqb (w / 256 % 256) (w / 256 % 256) refl,
-            eq-eqb (w / 256 / 256 % 256) (w / 256 / 256 % 256) refl,
-            eq-eqb (w / 256 / 256 / 256 % 256) (w / 256 / 256 / 256 % 256) refl,
-          );
-    }
-
--- Every word has such a neighbour.
-pub neighbour-near : (w : ℕ) → w ≤ mostNumber → Near w (neighbour w)
-neighbour-near w le =
-    if-case (Near w) (eqb (w % 256) 0)
-    (λ e. let z : w % 256 ≡ 0 = eqb-true (w % 256) 0 e in near w (w + 1) (omega arith) (omega arith) (λ s. omega arith))
-    (λ e. let z : w % 256 ≢ 0 = eqb-false (w % 256) 0 e in near w (w - 1) (omega arith) (omega arith) (λ s. omega arith))

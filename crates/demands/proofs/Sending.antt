@@ -146,7 +146,7 @@ unfolding addChange
 added-area l area c fits =
     if-case (λ (x : Logged). length (x .area) ≡ length area) (ltb (l .kept + 1) (R l))
     (λ _. length-placed recordSize (l .kept) (changeRecord c) area (length-change c) fits)
-    (λ _. length-placed recordSize (l .kept) _ area (length-gap _ _) fits)
+    (λ _. length-placed recordSize (l .kept) _ area (length-gap _ _ _) fits)
 
 module _ {n : ℕ} {h : Held} (f : Fit n h) (k : Call) (o : Ordinary k) where
   -- the log area has its length after the call

@@ -71,12 +71,13 @@ times (suc n) line = line ++ times n line
 abbrev pub endMark : List ℕ
 endMark = 0x53 ∷ 0 ∷ 0 ∷ 0 ∷ 0 ∷ 0 ∷ 0 ∷ 0 ∷ []
 
--- a change and a gap, with a tick count, a word or a number lost under 256
-abbrev pub change : ℕ → ℕ → ℕ → List ℕ
-change cause count word = 0x1E ∷ 0xE1 ∷ 1 ∷ cause ∷ 0 ∷ 0 ∷ 0 ∷ count ∷ 0 ∷ 0 ∷ 0 ∷ word ∷ []
+-- a change, with its cause, its tick count, its word and the word before it, and a gap, with the tick count of the first change lost, how many are
+-- lost and the word after the last; but for the cause all under 256
+abbrev pub change : ℕ → ℕ → ℕ → ℕ → List ℕ
+change cause count word before = 0x1E ∷ 0xE2 ∷ 1 ∷ cause ∷ 0 ∷ 0 ∷ 0 ∷ count ∷ 0 ∷ 0 ∷ 0 ∷ word ∷ 0 ∷ 0 ∷ 0 ∷ before ∷ []
 
-abbrev pub gap : ℕ → ℕ → List ℕ
-gap count lost = 0x1E ∷ 0xE1 ∷ 2 ∷ 0 ∷ 0 ∷ 0 ∷ 0 ∷ count ∷ 0 ∷ 0 ∷ 0 ∷ lost ∷ []
+abbrev pub gap : ℕ → ℕ → ℕ → List ℕ
+gap count lost word = 0x1E ∷ 0xE2 ∷ 2 ∷ 0 ∷ 0 ∷ 0 ∷ 0 ∷ count ∷ 0 ∷ 0 ∷ 0 ∷ lost ∷ 0 ∷ 0 ∷ 0 ∷ word ∷ []
 
 -- ---- how it is tried
 
@@ -206,7 +207,7 @@ stepped (alters a k bs) t =
 stepped (atTick n) t = heldNow (withTicks n (t .state)) (t .areas) (t .right)
 stepped (atLost n) t =
     let l = t .state .log in
-    heldNow (withLog (record { length = l .length; kept = l .kept; lost = n }) (t .state)) (t .areas) (t .right)
+    heldNow (withLog (record { length = l .length; kept = l .kept; lost = n; first = l .first }) (t .state)) (t .areas) (t .right)
 
 unfoldable pub tried : List Step → Trial → Trial
 tried [] t = t
@@ -236,7 +237,7 @@ abbrev pub endMarks : List ℕ
 endMarks = times 200 endMark
 
 abbrev pub point : List Step → Point
-point ss = record { copy = endMarks; room = 24; steps = ss }
+point ss = record { copy = endMarks; room = 32; steps = ss }
 
 -- with a longer log
 abbrev pub withRoom : ℕ → List Step → Point
@@ -244,4 +245,4 @@ withRoom room ss = record { copy = endMarks; room = room; steps = ss }
 
 -- with these lines at the start of the copy, and end marks after them
 abbrev pub withCopy : ℕ → List ℕ → List Step → Point
-withCopy n lines ss = record { copy = lines ++ times (200 - n) endMark; room = 24; steps = ss }
+withCopy n lines ss = record { copy = lines ++ times (200 - n) endMark; room = 32; steps = ss }

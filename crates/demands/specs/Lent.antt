@@ -14,9 +14,9 @@ use Rattle.demands.specs.Told.{Told}
 abbrev pub isWhole : List ℕ → Bool
 isWhole area = eqb (length area) 1600
 
--- "log area under 24 or over 65,536 bytes, or not the length given at power-on"
+-- "log area under 24 or over 65,536 bytes, or not the length given at power-on"; 02, item 8: "The smallest log area is 32 bytes"
 abbrev pub isLogArea : List ℕ → Bool
-isLogArea area = leb 24 (length area) && leb (length area) 65536
+isLogArea area = leb 32 (length area) && leb (length area) 65536
 
 abbrev pub isItsLog : Told → List ℕ → Bool
 isItsLog t area = isLogArea area && eqb (length area) (t .logLength)

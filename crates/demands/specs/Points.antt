@@ -1,6 +1,6 @@
 -- The worked points of 01 that are marked P, as one list in the language of Exchanges.
--- All start from a power-on whose saved copy holds 200 end marks with outputs 0 and whose log has 24 bytes, the least, and end with an
--- emptying of the log.
+-- All start from a power-on whose saved copy holds 200 end marks with outputs 0 and whose log has 32 bytes, the least, and end with an
+-- emptying of the log. 02, item 8: "the worked points take 32 bytes for 24".
 use Prim.Native.Nat.{ℕ}
 use mathlib.Core.List.{List, [], _∷_, _++_}
 use Rattle.demands.specs.Exchanges.{Step, Point, _⇒_, _⇒_runs_, empties}
@@ -62,17 +62,27 @@ points =
     ∷ "CR212^" ⇒ "011^"
     ∷ []
     )
-    logs (0x1E ∷ 0xE1 ∷ 1 ∷ 1 ∷ 0 ∷ 0 ∷ 0 ∷ 0 ∷ 0 ∷ 0 ∷ 0 ∷ 1 ∷ 0x1E ∷ 0xE1 ∷ 2 ∷ 0 ∷ 0 ∷ 0 ∷ 0 ∷ 6 ∷ 0 ∷ 0 ∷ 0 ∷ 1 ∷ [])
+    logs (
+    0x1E ∷ 0xE2 ∷ 1 ∷ 1 ∷ 0 ∷ 0 ∷ 0 ∷ 0 ∷ 0 ∷ 0 ∷ 0 ∷ 1 ∷ 0 ∷ 0 ∷ 0 ∷ 0
+    ∷ 0x1E ∷ 0xE2 ∷ 2 ∷ 0 ∷ 0 ∷ 0 ∷ 0 ∷ 6 ∷ 0 ∷ 0 ∷ 0 ∷ 1 ∷ 0 ∷ 0 ∷ 0 ∷ 0 ∷ []
+    )
     -- "F 1 0399, N 1, end mark: 400 lines, event 011. With 0400: event 013."
     ∷ point ("CW000F10399^" ⇒ "OK^" ∷ "CW001N1^" ⇒ "OK^" ∷ "CW210003^" ⇒ "OK^" runs 400 ∷ "CR212^" ⇒ "011^" ∷ "CR211^" ⇒ "002^" ∷ [])
     ∷ point ("CW000F10400^" ⇒ "OK^" ∷ "CW001N1^" ⇒ "OK^" ∷ "CW210003^" ⇒ "OK^" runs 400 ∷ "CR212^" ⇒ "013^" ∷ "CR211^" ⇒ "001^" ∷ [])
-    -- "a 24-byte log after three changes: one record, then a gap of 2. After two: a gap of 1."
+    -- "a [32]-byte log after three changes: one record, then a gap of 2. After two: a gap of 1." The gap has the tick of the first change lost, and the
+    -- word after the last.
     ∷ ("CW20601^" ⇒ "OK^" ∷ "#" ⇒ "" ∷ "CW20602^" ⇒ "OK^" ∷ "#" ⇒ "" ∷ "CW20603^" ⇒ "OK^" ∷ [])
-    logs (0x1E ∷ 0xE1 ∷ 1 ∷ 255 ∷ 0 ∷ 0 ∷ 0 ∷ 0 ∷ 0 ∷ 0 ∷ 0 ∷ 1 ∷ 0x1E ∷ 0xE1 ∷ 2 ∷ 0 ∷ 0 ∷ 0 ∷ 0 ∷ 2 ∷ 0 ∷ 0 ∷ 0 ∷ 2 ∷ [])
+    logs (
+    0x1E ∷ 0xE2 ∷ 1 ∷ 255 ∷ 0 ∷ 0 ∷ 0 ∷ 0 ∷ 0 ∷ 0 ∷ 0 ∷ 1 ∷ 0 ∷ 0 ∷ 0 ∷ 0
+    ∷ 0x1E ∷ 0xE2 ∷ 2 ∷ 0 ∷ 0 ∷ 0 ∷ 0 ∷ 1 ∷ 0 ∷ 0 ∷ 0 ∷ 2 ∷ 0 ∷ 0 ∷ 0 ∷ 3 ∷ []
+    )
     ∷ ("CW20601^" ⇒ "OK^" ∷ "#" ⇒ "" ∷ "CW20602^" ⇒ "OK^" ∷ [])
-    logs (0x1E ∷ 0xE1 ∷ 1 ∷ 255 ∷ 0 ∷ 0 ∷ 0 ∷ 0 ∷ 0 ∷ 0 ∷ 0 ∷ 1 ∷ 0x1E ∷ 0xE1 ∷ 2 ∷ 0 ∷ 0 ∷ 0 ∷ 0 ∷ 1 ∷ 0 ∷ 0 ∷ 0 ∷ 1 ∷ [])
+    logs (
+    0x1E ∷ 0xE2 ∷ 1 ∷ 255 ∷ 0 ∷ 0 ∷ 0 ∷ 0 ∷ 0 ∷ 0 ∷ 0 ∷ 1 ∷ 0 ∷ 0 ∷ 0 ∷ 0
+    ∷ 0x1E ∷ 0xE2 ∷ 2 ∷ 0 ∷ 0 ∷ 0 ∷ 0 ∷ 1 ∷ 0 ∷ 0 ∷ 0 ∷ 1 ∷ 0 ∷ 0 ∷ 0 ∷ 2 ∷ []
+    )
     -- "209 = 200 with 006 accepted; with 005, E004." 02, item 3: "The worked point's E004 with 005 becomes E023."
     ∷ ("CW200S00000000070000^" ⇒ "OK^" ∷ "CW209200^" ⇒ "OK^" ∷ "CW210006^" ⇒ "OK^" ∷ "CR206^" ⇒ "07^" ∷ [])
-    logs (0x1E ∷ 0xE1 ∷ 1 ∷ 254 ∷ 0 ∷ 0 ∷ 0 ∷ 0 ∷ 0 ∷ 0 ∷ 0 ∷ 7 ∷ [])
+    logs (0x1E ∷ 0xE2 ∷ 1 ∷ 254 ∷ 0 ∷ 0 ∷ 0 ∷ 0 ∷ 0 ∷ 0 ∷ 0 ∷ 7 ∷ 0 ∷ 0 ∷ 0 ∷ 0 ∷ [])
     ∷ point ("CW209200^" ⇒ "OK^" ∷ "CW210005^" ⇒ "E023^" ∷ [])
     ∷ []

@@ -8,7 +8,7 @@ use lib.Dec.{eqb}
 use Rattle.controller.specs.Controller.{Areas}
 use Rattle.controller.specs.Refusals.{Call}
 use Rattle.controller.specs.Calls.{After}
-use Rattle.demands.specs.Histories.{Made, Held, unpowered, outcome, next, after}
+use Rattle.demands.specs.Histories.{Made, emptyingTo, Held, unpowered, outcome, next, after}
 
 -- of one call: the number of its refusal, the counts it returns, every lent area after it, and the 32 outputs
 pub record Seen : Type 0 where
@@ -37,6 +37,10 @@ isError r = eqb (length r) 5 && eqb (getD r 0 0) (code "E")
 -- what is seen of the call m after the calls ms, the first of them being the first of all
 unfoldable pub seen : List Made → Made → Seen
 seen ms m = seenOf (outcome (after unpowered ms) m)
+
+-- the bytes that an emptying after the calls ms copies to the start of its destination
+abbrev pub emptiedBy : List Made → Areas → List ℕ
+emptiedBy ms a = let s = seen ms (emptyingTo a) in take (s .written) (s .areas .out)
 
 -- the 32 outputs after the calls ms, which can be seen at any time
 unfoldable pub outputs : List Made → ℕ

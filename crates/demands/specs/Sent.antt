@@ -4,14 +4,14 @@ use Prim.Native.Nat.{ℕ}
 use mathlib.Core.Path.{_≡_}
 use mathlib.Core.Bool.{true}
 use mathlib.Core.List.{List, [], _∷_, _++_}
-use lib.ListN.{take, replicate}
+use lib.ListN.{replicate}
 use Rattle.log.specs.declared.Change.{Change}
 use Rattle.log.specs.Record.{mostArea}
 use Rattle.controller.specs.Controller.{Areas}
 use Rattle.controller.specs.Refusals.{Call}
 use Rattle.demands.specs.LentBytes.{lendBytes}
 use Rattle.demands.specs.Histories.{Made, powering, emptyingTo, Held, unpowered, isAccepted, next, after, HandsOn, AllHandOn}
-use Rattle.demands.specs.Seen.{isTaken, seen}
+use Rattle.demands.specs.Seen.{isTaken, seen, emptiedBy}
 use Rattle.demands.specs.Told.{told}
 use Rattle.demands.specs.Changes.{changes}
 
@@ -66,4 +66,4 @@ pub record Emptied (bs : List ℕ) : Type 0 where
   pub hands : AllHandOn (after unpowered (powering first ∷ [])) later
   pub handed : HandsOn (after unpowered (powering first ∷ later)) (emptyingTo last)
   pub taken : isTaken (seen (powering first ∷ later) (emptyingTo last)) ≡ true
-  pub gives : take (seen (powering first ∷ later) (emptyingTo last) .written) (seen (powering first ∷ later) (emptyingTo last) .areas .out) ≡ bs
+  pub gives : emptiedBy (powering first ∷ later) last ≡ bs

@@ -70,7 +70,7 @@ variables =
     ∷ "CW210001^CR213^CR214^CR215^CR216^CR211^CR203^CR204^CR205^CR206^CR201^CR212^" ⇒ "OK^0000^0000^0000^0000^014^A1^B2^C3^D4^00^000^"
     -- "Power-on: outputs 0, stopped, line 000, parameter 0"; what was collected is gone
     ∷ "CR2" ⇒ ""
-    ∷ try powerOn (lent 1600 1600 24 0) 0
+    ∷ try powerOn (lent 1600 1600 32 0) 0
     ∷ "^CR201^CR202^CR203^CR204^CR205^CR206^CR207^CR208^" ⇒ "E001^80^00^00^00^00^00^00^000^"
     ∷ "CR209^CR210^CR211^CR212^CR213^CR214^CR215^CR216^CR200^CR010^" ⇒ "000^000^000^012^0000^0000^0000^0000^S00000000000000^S00000000000000^"
     -- 02, item 7: the last address written is before 000 again

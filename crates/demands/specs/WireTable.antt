@@ -109,10 +109,10 @@ wire =
     -- and so at every power-on: while a program runs, in the middle of a command, after one that was refused
     ∷ point (
     "CR100^CW000S00000000000009^!CR1" ⇒ "S00000000000000^OK^"
-    ∷ try powerOn (lent 1600 1600 24 0) 0
+    ∷ try powerOn (lent 1600 1600 32 0) 0
     ∷ "^CRD^CWDN1^CWIN1^CRI^CRD^CWIN2^CRI^" ⇒ "E001^E004^E004^OK^N1^E004^OK^N2^"
-    ∷ try powerOn (lent 1600 1600 23 0) 31
-    ∷ try powerOn (lent 1600 1600 24 0) 0
+    ∷ try powerOn (lent 1600 1600 31 0) 31
+    ∷ try powerOn (lent 1600 1600 32 0) 0
     ∷ "CRD^CWDN1^CWIN3^CRI^CRD^" ⇒ "E004^E004^OK^N3^E004^"
     ∷ []
     )

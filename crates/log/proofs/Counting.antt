@@ -1,39 +1,88 @@
--- Laws of the log whatever its area holds: how many changes are kept and lost, and which record is due.
+-- Laws of the log whatever its area holds: how many changes are kept and lost, the tick of the first lost, and which record is due.
 -- Assumes nothing.
 use mathlib.Core.Path.{_≡_, refl, sym, ap, _∙_}
 use mathlib.Core.Logic.{_≢_}
-use Prim.Native.Nat.{ℕ, _+_, _-_, _≤_, _<_, min}
+use Prim.Native.Nat.{ℕ, _+_, _-_, _/_, _≤_, _<_, min}
 use native.Mathlib.Omega.{arith}
 use mathlib.Core.Bool.{Bool, true, false}
 use mathlib.Core.List.{List, [], _∷_, _++_}
-use lib.ListN.{length, length-append}
+use lib.ListN.{length, drop, length-append, length-drop, drop-of-length-le}
+use lib.Seq.{drop-append-le, drop-nil}
 use lib.Dec.{ltb, eqb}
-use borrow.Author.Tests.{ltb-true, ltb-false, lt-ltb, le-ltb, eqb-true, eqb-false}
+use borrow.Author.Tests.{ltb-true, ltb-false, lt-ltb, le-ltb, eqb-true, eqb-false, eq-eqb, ne-eqb}
+use Rattle.formats.specs.Checks.{if_then_else_}
 use Rattle.formats.proofs.Checks.{if-case}
 use Rattle.log.specs.declared.Change.{Change}
 use Rattle.log.specs.declared.Log.{Log}
-use Rattle.log.specs.Record.{leastArea}
-use Rattle.log.specs.Log.{R, mostLost, recordDue, Logged, recorded, oneMoreLost, addChange, held, emptied}
-use Rattle.log.proofs.Histories.{one-more-is}
+use Rattle.log.specs.Record.{recordSize, leastArea, gapRecord}
+use Rattle.log.specs.Log.{R, mostLost, recordDue, Logged, recorded, oneMoreLost, firstLost, addChange, held, emptied, firstTick, lastWord, gapOver}
 
--- after the changes cs since emptying
+-- ---- one change more among those lost
+
+pub one-more-is : (n : ℕ) → n ≤ mostLost → oneMoreLost n ≡ min (n + 1) mostLost
+one-more-is n le =
+    if-case (λ m. m ≡ min (n + 1) mostLost) (ltb n mostLost)
+    (λ e. omega (arith, ltb-true n mostLost e)) (λ e. omega (arith, ltb-false n mostLost e))
+
+-- its word is the last
+pub word-snoc : (w : ℕ) (cs : List Change) (c : Change) → lastWord w (cs ++ (c ∷ [])) ≡ c .word
+word-snoc w [] c = refl
+word-snoc w (d ∷ cs) c = word-snoc (d .word) cs c
+
+-- its tick is the first, if no other is lost
+first-snoc : (cs : List Change) (c : Change) (n : ℕ) → n ≡ min (length cs) mostLost → (if eqb n 0 then c .tick else firstTick cs) ≡ firstTick (cs ++ (c ∷ []))
+first-snoc [] c n e = rw (eq-eqb n 0 (omega (arith, e)))
+first-snoc (d ∷ cs) c n e = rw (ne-eqb n 0 (λ z. omega (arith, e)))
+
+-- the gap over some changes, by what it tells of them
+gap-tells : (cs : List Change) → 0 < length cs → gapOver cs ≡ gapRecord (firstTick cs) (min (length cs) mostLost) (lastWord 0 cs)
+unfolding gapOver
+gap-tells [] lt = absurd (omega arith)
+gap-tells (c ∷ cs) lt = refl
+
+-- ---- after the changes cs since emptying
+
 pub record Counts (cs : List Change) (l : Log) : Type 0 where
   pub keptIs : l .kept ≡ min (length cs) (R l - 1)
   pub lostIs : l .lost ≡ min (length cs - (R l - 1)) mostLost
+  pub firstIs : l .first ≡ firstTick (drop (R l - 1) cs)
 
 pub counts-nothing : (n : ℕ) → Counts [] (emptied n)
 unfolding emptied
-counts-nothing n = record { keptIs = omega arith; lostIs = omega arith }
+counts-nothing n = record { keptIs = omega arith; lostIs = omega arith; firstIs = sym (ap firstTick (drop-nil (n / recordSize - 1))) }
 
 module _ (cs : List Change) (l : Log) (area : List ℕ) (c : Change) (enough : leastArea ≤ l .length) (h : Counts cs l) where
+  abbrev lost : List Change
+  lost = drop (R l - 1) cs
+
   more : length (cs ++ (c ∷ [])) ≡ length cs + 1
   more = length-append cs (c ∷ [])
 
-  -- the gap's number grows by one
-  lost-more : R l ≤ l .kept + 1 → oneMoreLost (l .lost) ≡ min (length cs + 1 - (R l - 1)) mostLost
-  lost-more le =
-      let many : R l - 1 ≤ length cs = omega (arith, h .keptIs) in
-      omega (arith, h .lostIs, one-more-is (l .lost) (omega (arith, h .lostIs)))
+  lost-long : length lost ≡ length cs - (R l - 1)
+  lost-long = length-drop (R l - 1) cs
+
+  -- where no more can be kept, c is lost behind those lost before
+  module _ (le : R l ≤ l .kept + 1) where
+    many : R l - 1 ≤ length cs
+    many = omega (arith, h .keptIs)
+
+    pub lost-more : drop (R l - 1) (cs ++ (c ∷ [])) ≡ lost ++ (c ∷ [])
+    lost-more = drop-append-le (R l - 1) cs (c ∷ []) many
+
+    -- the number, the first tick and the word of the gap
+    number-more : oneMoreLost (l .lost) ≡ min (length (lost ++ (c ∷ []))) mostLost
+    number-more = omega (arith, h .lostIs, one-more-is (l .lost) (omega (arith, h .lostIs)), lost-long, length-append lost (c ∷ []))
+
+    first-more : firstLost l c ≡ firstTick (lost ++ (c ∷ []))
+    first-more =
+        ap (λ t. if eqb (l .lost) 0 then c .tick else t) (h .firstIs)
+        ∙ first-snoc lost c (l .lost) (h .lostIs ∙ ap (λ n. min n mostLost) (sym lost-long))
+
+    -- The gap that is written is the one over all changes lost.
+    pub gap-more : gapRecord (firstLost l c) (oneMoreLost (l .lost)) (c .word) ≡ gapOver (lost ++ (c ∷ []))
+    gap-more =
+        rw (first-more, number-more)
+        (ap (gapRecord _ _) (sym (word-snoc 0 lost c)) ∙ sym (gap-tells (lost ++ (c ∷ [])) (omega (arith, length-append lost (c ∷ [])))))
 
   -- One change more is counted.
   pub counts-more : Counts (cs ++ (c ∷ [])) (addChange l area c .log)
@@ -43,10 +92,20 @@ module _ (cs : List Change) (l : Log) (area : List ℕ) (c : Change) (enough : l
       (λ e.
       let lt : l .kept + 1 < R l = ltb-true (l .kept + 1) (R l) e in
       let few : length cs + 1 ≤ R l - 1 = omega (arith, h .keptIs) in
-      record { keptIs = omega (arith, more, h .keptIs); lostIs = omega (arith, more, h .lostIs) })
+      record {
+        keptIs = omega (arith, more, h .keptIs);
+        lostIs = omega (arith, more, h .lostIs);
+        firstIs = h .firstIs
+            ∙ ap firstTick
+            (drop-of-length-le cs {i = R l - 1} (omega arith) ∙ sym (drop-of-length-le (cs ++ (c ∷ [])) {i = R l - 1} (omega (arith, more))));
+      })
       (λ e.
       let le : R l ≤ l .kept + 1 = ltb-false (l .kept + 1) (R l) e in
-      record { keptIs = omega (arith, more, h .keptIs); lostIs = lost-more le ∙ ap (λ n. min (n - (R l - 1)) mostLost) (sym more) })
+      record {
+        keptIs = omega (arith, more, h .keptIs);
+        lostIs = number-more le ∙ ap (λ n. min n mostLost) (omega (arith, lost-long, length-append lost (c ∷ []), more, many le));
+        firstIs = first-more le ∙ ap firstTick (sym (lost-more le));
+      })
 
   -- "each call still writes exactly the record that is due", into its own stretch.
   pub record-due : addChange l area c .area ≡ recorded (min (length cs) (R l - 1)) (recordDue (R l) cs c) area
@@ -61,7 +120,7 @@ module _ (cs : List Change) (l : Log) (area : List ℕ) (c : Change) (enough : l
       go false e =
           let le : R l ≤ l .kept + 1 = ltb-false (l .kept + 1) (R l) e in
           let full : R l ≤ length cs + 1 = omega (arith, h .keptIs) in
-          rw (e, addChange, le-ltb (length cs + 1) (R l) full, lost-more le, ← h .keptIs)
+          rw (e, addChange, le-ltb (length cs + 1) (R l) full, gap-more le, ← h .keptIs)
 
 -- The records held: as many as the changes, and at most as many as there are places.
 pub held-counts : (cs : List Change) (l : Log) → leastArea ≤ l .length → Counts cs l → held l ≡ min (length cs) (R l)

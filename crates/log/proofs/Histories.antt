@@ -1,10 +1,10 @@
 -- The log holds the history of the changes since it was emptied, whatever they are and however many.
 -- Assumes nothing.
-use mathlib.Core.Path.{_≡_, refl, sym, ap, _∙_}
-use Prim.Native.Nat.{ℕ, _+_, _*_, _-_, _/_, _≤_, _<_, min}
+use mathlib.Core.Path.{_≡_, refl, sym, ap, ap₂, _∙_}
+use Prim.Native.Nat.{ℕ, _+_, _*_, _-_, _/_, _≤_, _<_}
 use mathlib.Core.Bool.{Bool, true, false}
 use mathlib.Core.List.{List, [], _∷_, _++_, append-assoc, append-nil}
-use lib.ListN.{take, length, length-append}
+use lib.ListN.{take, length, length-append, drop-of-length-le}
 use lib.Seq.{take-append-le, take-all, take-nil}
 use lib.Dec.{ltb}
 use native.Mathlib.Omega.{arith}
@@ -13,36 +13,33 @@ use Rattle.formats.proofs.Checks.{if-case}
 use Rattle.formats.proofs.Places.{placed-before, placed-at, length-placed}
 use Rattle.log.specs.declared.Change.{Change}
 use Rattle.log.specs.declared.Log.{Log}
-use Rattle.log.specs.Record.{recordSize, leastArea, changeRecord, gapRecord}
-use Rattle.log.specs.Log.{R, mostLost, Logged, oneMoreLost, addChange, records, emptied, recordsOf, lastTick, history}
+use Rattle.log.specs.Record.{recordSize, leastArea, changeRecord}
+use Rattle.log.specs.Log.{R, Logged, addChange, records, emptied, recordsOf, gapOver, history}
 use Rattle.log.specs.Invariant.{LogInvariant}
 use Rattle.log.proofs.Records.{length-change, length-gap}
+use Rattle.log.proofs.Counting.{Counts, counts-nothing, counts-more, lost-more, gap-more}
 
--- ---- one more change at the end of a list
+-- ---- the paper's sentence
 
+-- "With fewer than R changes since emptying, all stand there."
+pub history-few : (R : ℕ) (cs : List Change) → length cs ≤ R - 1 → history R cs ≡ recordsOf cs
+unfolding history gapOver
+history-few R cs le = rw (take-all (R - 1) cs le, drop-of-length-le cs le) (append-nil (recordsOf cs))
+
+-- one more change at the end of a list
 records-snoc : (cs : List Change) (c : Change) → recordsOf (cs ++ (c ∷ [])) ≡ recordsOf cs ++ changeRecord c
 unfolding recordsOf
 records-snoc [] c = append-nil (changeRecord c)
 records-snoc (d ∷ cs) c = rw (records-snoc cs c, append-assoc)
-
-last-snoc : (t : ℕ) (cs : List Change) (c : Change) → lastTick t (cs ++ (c ∷ [])) ≡ c .tick
-last-snoc t [] c = refl
-last-snoc t (d ∷ cs) c = last-snoc (d .tick) cs c
-
-pub one-more-is : (n : ℕ) → n ≤ mostLost → oneMoreLost n ≡ min (n + 1) mostLost
-one-more-is n le =
-    if-case (λ m. m ≡ min (n + 1) mostLost) (ltb n mostLost)
-    (λ e. omega (arith, ltb-true n mostLost e)) (λ e. omega (arith, ltb-false n mostLost e))
 
 -- ---- what holds of a log after the changes cs since emptying
 
 pub record Holds (cs : List Change) (l : Log) (area : List ℕ) : Type 0 where
   pub enough : leastArea ≤ l .length
   pub whole : length area ≡ l .length
-  pub keptIs : l .kept ≡ min (length cs) (R l - 1)
-  pub lostIs : l .lost ≡ min (length cs - (R l - 1)) mostLost
-  pub first : take (recordSize * (l .kept)) area ≡ recordsOf (take (R l - 1) cs)
-  pub gap : R l ≤ length cs → take (recordSize * (l .kept) + recordSize) area ≡ recordsOf (take (R l - 1) cs) ++ gapRecord (lastTick 0 cs) (l .lost)
+  pub counts : Counts cs l
+  pub kept : take (recordSize * (l .kept)) area ≡ recordsOf (take (R l - 1) cs)
+  pub gap : R l ≤ length cs → take (recordSize * (l .kept) + recordSize) area ≡ history (R l) cs
 
 pub holds-nothing : (n : ℕ) (area : List ℕ) → leastArea ≤ n → length area ≡ n → Holds [] (emptied n) area
 unfolding emptied recordsOf
@@ -50,9 +47,8 @@ holds-nothing n area le whole =
     record {
       enough = le;
       whole = whole;
-      keptIs = omega arith;
-      lostIs = omega arith;
-      first = sym (ap recordsOf (take-nil (n / recordSize - 1)));
+      counts = counts-nothing n;
+      kept = sym (ap recordsOf (take-nil (n / recordSize - 1)));
       gap = λ most. absurd (omega arith);
     }
 
@@ -64,7 +60,10 @@ module _ (cs : List Change) (l : Log) (area : List ℕ) (c : Change) (h : Holds 
   more = length-append cs (c ∷ [])
 
   fits : recordSize * (l .kept) + recordSize ≤ length area
-  fits = omega (arith, h .keptIs, h .whole, h .enough)
+  fits = omega (arith, h .counts .keptIs, h .whole, h .enough)
+
+  counted : Counts cs′ (addChange l area c .log)
+  counted = counts-more cs l area c (h .enough) (h .counts)
 
   abbrev HoldsNow : Logged → Type 0
   HoldsNow x = Holds cs′ (x .log) (x .area)
@@ -74,19 +73,19 @@ module _ (cs : List Change) (l : Log) (area : List ℕ) (c : Change) (h : Holds 
   unfolding addChange
   keep e =
       let lt : l .kept + 1 < R l = ltb-true (l .kept + 1) (R l) e in
-      let few : length cs + 1 ≤ R l - 1 = omega (arith, h .keptIs) in
+      let few : length cs + 1 ≤ R l - 1 = omega (arith, h .counts .keptIs) in
       let next : recordSize * (l .kept + 1) ≡ recordSize * (l .kept) + recordSize = omega arith in
+      let now = counted in
       rw (e, addChange)
       (record {
         enough = h .enough;
         whole = length-placed recordSize (l .kept) (changeRecord c) area (length-change c) fits ∙ h .whole;
-        keptIs = omega (arith, more, h .keptIs);
-        lostIs = omega (arith, more, h .lostIs);
-        first =
+        counts = rw (e, addChange) at now;
+        kept =
             rw (
               next,
               placed-at recordSize (l .kept) (changeRecord c) area (length-change c) fits,
-              h .first,
+              h .kept,
               take-all (R l - 1) cs (omega arith),
               take-all (R l - 1) cs′ (omega (arith, more)),
               records-snoc,
@@ -96,18 +95,21 @@ module _ (cs : List Change) (l : Log) (area : List ℕ) (c : Change) (h : Holds 
 
   -- there is none: it is lost, and the gap tells
   lose : ltb (l .kept + 1) (R l) ≡ false → HoldsNow (addChange l area c)
-  unfolding addChange
+  unfolding addChange history
   lose e =
       let le : R l ≤ l .kept + 1 = ltb-false (l .kept + 1) (R l) e in
-      let many : R l - 1 ≤ length cs = omega (arith, h .keptIs) in
+      let many : R l - 1 ≤ length cs = omega (arith, h .counts .keptIs) in
+      let gap = gap-more cs l area c (h .enough) (h .counts) le ∙ ap gapOver (sym (lost-more cs l area c (h .enough) (h .counts) le)) in
+      let first : take (R l - 1) cs′ ≡ take (R l - 1) cs = take-append-le (R l - 1) cs (c ∷ []) many in
+      let now = counted in
       rw (e, addChange)
       (record {
         enough = h .enough;
-        whole = length-placed recordSize (l .kept) _ area (length-gap _ _) fits ∙ h .whole;
-        keptIs = omega (arith, more, h .keptIs);
-        lostIs = omega (arith, more, h .lostIs, one-more-is (l .lost) (omega (arith, h .lostIs)));
-        first = rw (placed-before recordSize (l .kept) _ area (length-gap _ _) fits, take-append-le, h .first);
-        gap = λ _. rw (placed-at recordSize (l .kept) _ area (length-gap _ _) fits, h .first, take-append-le, last-snoc);
+        whole = length-placed recordSize (l .kept) _ area (length-gap _ _ _) fits ∙ h .whole;
+        counts = rw (e, addChange) at now;
+        kept = rw (placed-before recordSize (l .kept) _ area (length-gap _ _ _) fits, first) (h .kept);
+        gap = λ _. placed-at recordSize (l .kept) _ area (length-gap _ _ _) fits
+            ∙ ap₂ (λ x y. x ++ y) (h .kept ∙ ap recordsOf (sym first)) gap;
       })
 
   -- One change more: the log then holds the longer list.
@@ -120,15 +122,19 @@ module _ (cs : List Change) (l : Log) (area : List ℕ) (c : Change) (h : Holds 
 
 -- What a log holds is told by its records: the paper's sentence.
 pub records-tell : (cs : List Change) (l : Log) (area : List ℕ) → Holds cs l area → records l area ≡ history (R l) cs
-unfolding records history
+unfolding records
 records-tell cs l area h = go (ltb (length cs) (R l)) refl
   where
     go : (t : Bool) → ltb (length cs) (R l) ≡ t → records l area ≡ history (R l) cs
-    go true e = rw (eq-eqb (l .lost) 0 (omega (arith, h .lostIs, ltb-true (length cs) (R l) e)), e, records, history)
-        (h .first ∙ ap recordsOf (take-all (R l - 1) cs (omega (arith, ltb-true (length cs) (R l) e))))
-    go false e = rw (ne-eqb (l .lost) 0 (λ z. omega (arith, h .lostIs, h .enough, ltb-false (length cs) (R l) e)), e, records, history)
-        (let next : recordSize * (l .kept + 1) ≡ recordSize * (l .kept) + recordSize = omega arith in
-        rw (next, ← h .lostIs) (h .gap (ltb-false (length cs) (R l) e)))
+    go true e =
+        let lt : length cs < R l = ltb-true (length cs) (R l) e in
+        let few : length cs ≤ R l - 1 = omega arith in
+        rw (eq-eqb (l .lost) 0 (omega (arith, h .counts .lostIs)), records)
+        (h .kept ∙ ap recordsOf (take-all (R l - 1) cs few) ∙ sym (history-few (R l) cs few))
+    go false e =
+        let le : R l ≤ length cs = ltb-false (length cs) (R l) e in
+        let next : recordSize * (l .kept + 1) ≡ recordSize * (l .kept) + recordSize = omega arith in
+        rw (ne-eqb (l .lost) 0 (λ z. omega (arith, h .counts .lostIs, h .enough)), records, next) (h .gap le)
 
 -- ---- the invariant
 

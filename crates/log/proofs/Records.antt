@@ -10,18 +10,29 @@ use Rattle.log.specs.declared.Change.{Change}
 use Rattle.log.specs.Record.{recordSize, recordOf, changeRecord, gapRecord}
 use Rattle.log.specs.Log.{recordsOf}
 
--- the layout, byte by byte: mark, kind, cause, tick and value, high byte first
-layout : recordOf 1 254 0x01020304 0xA0B0C0D0 ≡ 0x1E ∷ 0xE1 ∷ 1 ∷ 254 ∷ 1 ∷ 2 ∷ 3 ∷ 4 ∷ 0xA0 ∷ 0xB0 ∷ 0xC0 ∷ 0xD0 ∷ []
+-- the layout, byte by byte: mark, kind, cause, tick, value and the last word, high byte first
+layout : recordOf 1 254 0x01020304 0xA0B0C0D0 0x11223344
+    ≡ 0x1E ∷ 0xE2 ∷ 1 ∷ 254 ∷ 1 ∷ 2 ∷ 3 ∷ 4 ∷ 0xA0 ∷ 0xB0 ∷ 0xC0 ∷ 0xD0 ∷ 0x11 ∷ 0x22 ∷ 0x33 ∷ 0x44 ∷ []
 unfolding recordOf digits
 layout = refl
+
+-- what a change and a gap tell in it: the word after the change before that before it; the first lost tick, the number, the word after
+change-layout : changeRecord (record { cause = 254; tick = 1; word = 2; before = 3 })
+    ≡ 0x1E ∷ 0xE2 ∷ 1 ∷ 254 ∷ 0 ∷ 0 ∷ 0 ∷ 1 ∷ 0 ∷ 0 ∷ 0 ∷ 2 ∷ 0 ∷ 0 ∷ 0 ∷ 3 ∷ []
+unfolding changeRecord recordOf digits
+change-layout = refl
+
+gap-layout : gapRecord 1 2 3 ≡ 0x1E ∷ 0xE2 ∷ 2 ∷ 0 ∷ 0 ∷ 0 ∷ 0 ∷ 1 ∷ 0 ∷ 0 ∷ 0 ∷ 2 ∷ 0 ∷ 0 ∷ 0 ∷ 3 ∷ []
+unfolding gapRecord recordOf digits
+gap-layout = refl
 
 pub length-change : (c : Change) → length (changeRecord c) ≡ recordSize
 unfolding changeRecord recordOf digits
 length-change c = refl
 
-pub length-gap : (tick lost : ℕ) → length (gapRecord tick lost) ≡ recordSize
+pub length-gap : (first lost word : ℕ) → length (gapRecord first lost word) ≡ recordSize
 unfolding gapRecord recordOf digits
-length-gap tick lost = refl
+length-gap first lost word = refl
 
 -- records one behind the other
 pub length-records-of : (cs : List Change) → length (recordsOf cs) ≡ recordSize * length cs

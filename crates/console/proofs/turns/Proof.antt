@@ -26,16 +26,28 @@ turn-requires : tie.Need-turn-requires Inv-loop μ-loop
 turn-requires c κs = c .before .before .before .before .before .loop .inv .4
 
 same-length : tie.Need-same-length Inv-loop μ-loop
-same-length c = search needs
+same-length c =
+    let earlier = c .before .before .before .before .before .before .before .before .before .before in
+    let loop = earlier .before .before .before .before .before .before .loop in
+    omega (arith, loop .inv .0)
 
 same-length-2 : tie.Need-same-length-2 Inv-loop μ-loop
-same-length-2 c = search needs
+same-length-2 c =
+    let earlier = c .before .before .before .before .before .before .before .before .before .before in
+    let loop = earlier .before .before .before .before .before .before .loop in
+    omega (arith, loop .inv .1)
 
 same-length-3 : tie.Need-same-length-3 Inv-loop μ-loop
-same-length-3 c = search needs
+same-length-3 c =
+    let earlier = c .before .before .before .before .before .before .before .before .before .before in
+    let loop = earlier .before .before .before .before .before .before .loop in
+    omega (arith, loop .inv .2)
 
 same-length-4 : tie.Need-same-length-4 Inv-loop μ-loop
-same-length-4 c = search needs
+same-length-4 c =
+    let earlier = c .before .before .before .before .before .before .before .before .before .before in
+    let loop = earlier .before .before .before .before .before .before .loop in
+    omega (arith, loop .inv .3)
 
 returns : tie.Need-returns Inv-loop μ-loop
 returns c = search needs
