@@ -139,7 +139,7 @@ struct nizhalepu_log {
     size_t length;      /* of the area, as given at power-on */
     size_t kept;        /* changes that have a record of their own */
     uint32_t lost;      /* changes that a gap counts */
-    uint32_t first;     /* the tick of the first lost change; of no meaning while none is lost */
+    uint32_t first;     /* the tick of the first lost change; 0 while none is lost */
 };
 
 struct nizhalepu_record {

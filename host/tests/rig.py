@@ -107,6 +107,8 @@ def points_of_running():
         send(f"CR{address}", value)
     empty(change(1, 0, 1, 0), gap(6, 1, 0))  # two changes in a log of two places
 
+
+def points_of_400_lines():
     on()
     send("CW000F10399", "OK")
     send("CW001N1", "OK")
@@ -322,6 +324,7 @@ points_of_the_wire()
 checks_of_a_command()
 downloads()
 points_of_running()
+points_of_400_lines()
 points_of_the_log()
 points_of_the_gap()
 log_lengths()

@@ -42,7 +42,7 @@ differs before word = not (eqb before word)
 abbrev pub cause : Res Asked → ℕ → ℕ
 cause command line = if writesOutputs command then 255 else if eqb (specialCode command) 6 then 254 else line
 
--- "tick count", the count after the call; "value is the new word"; 02, item 8: "the word before the change", the outputs' own
+-- "tick count", the count after the call; "value is the new word"; 02, item 8: "the word before the change", that of the outputs before the call
 abbrev pub changed : ℕ → ℕ → Controller → Change
 changed before cause after = record { cause = cause; tick = after .ticks; word = after .run .outputs; before = before }
 

@@ -37,7 +37,7 @@ use Rattle.demands.proofs.Words.{said-byte, word-then, one-byte-then}
 
 -- ---- tick count and output word are numbers of four bytes
 
-pub record Fit (t : Told) : Type 0 where
+pub record InRange (t : Told) : Type 0 where
   pub ticks : t .ticks ≤ mostNumber
   pub word : Word (t .run .outputs)
 
@@ -55,23 +55,23 @@ tick-may tick c a e ch = ch .checks .1
 tick-may (press n) c a e ch = absurd (true≢false (sym e))
 tick-may emptying c a e ch = absurd (true≢false (sym e))
 
-module _ (t : Told) (h : Held) (m : Made) (g : Agrees t (h .state)) (bytes : areOfBytes (m .areas) ≡ true) (f : Fit t) where
-  ticks-fit : isAccepted h m ≡ true → ticksThen (m .call) (said t (note h m)) (m .areas) t ≤ mostNumber
+module _ (t : Told) (h : Held) (m : Made) (g : Agrees t (h .state)) (bytes : areOfBytes (m .areas) ≡ true) (f : InRange t) where
+  ticks-range : isAccepted h m ≡ true → ticksThen (m .call) (said t (note h m)) (m .areas) t ≤ mostNumber
   unfolding outcome
-  ticks-fit ok =
+  ticks-range ok =
       if-case (λ n. n ≤ mostNumber) (isTick (m .call))
       (λ is.
       let ch = accepted-call (m .call) (h .state) (m .areas) (eqb-true _ _ ok) .0 in
       let before : h .state .ticks ≢ 4294967295 = eqb-false _ _ (not-true _ (tick-may (m .call) (h .state) (m .areas) is ch)) in
       omega (arith, f .ticks, g .ticks)) (λ _. f .ticks)
 
-  pub fit-next : Fit (tell t (note h m))
+  pub range-next : InRange (tell t (note h m))
   unfolding tell note afterwards
-  fit-next =
-      if-case Fit (isPowerOn (m .call)) (λ _. record { ticks = omega arith; word = omega arith }) λ _.
-      if-case Fit (isAccepted h m)
+  range-next =
+      if-case InRange (isPowerOn (m .call)) (λ _. record { ticks = omega arith; word = omega arith }) λ _.
+      if-case InRange (isAccepted h m)
       (λ ok. record {
-        ticks = ticks-fit ok;
+        ticks = ticks-range ok;
         word = word-then (m .call) (m .areas) t (f .word) (program-bytes (m .areas) bytes) (g .panel .fits) (said t (note h m)) (said-byte t (note h m));
       }) (λ _. f)
 
@@ -118,22 +118,22 @@ standing t = record { cause = 0; tick = t .ticks; word = t .run .outputs; before
 
 -- The changes cs lead from one change to what stands: each comes next after the one before it, the last of them is not later than now, and left the word
 -- of now.
-pub record Leads (from : Change) (cs : List Change) (t : Told) : Type 0 where
+pub record Reached (from : Change) (cs : List Change) (t : Told) : Type 0 where
   pub next : areNext from cs ≡ true
   pub tick : lastOf from cs .tick ≤ t .ticks
   pub word : lastOf from cs .word ≡ t .run .outputs
 
-pub none-leads : (t : Told) → Leads (standing t) [] t
+pub none-reached : (t : Told) → Reached (standing t) [] t
 unfolding areNext
-none-leads t = record { next = refl; tick = omega arith; word = refl }
+none-reached t = record { next = refl; tick = omega arith; word = refl }
 
 -- one call more, with the change from one word to the other, if they differ
-more-leads : (from : Change) (cs : List Change) (t u : Told) (by : ℕ) → Leads from cs t → t .ticks ≤ u .ticks → Fit t → Fit u → isCause by ≡ true
+more-reached : (from : Change) (cs : List Change) (t u : Told) (by : ℕ) → Reached from cs t → t .ticks ≤ u .ticks → InRange t → InRange u → isCause by ≡ true
     → (eqb (t .run .outputs) (u .run .outputs) ≡ false → (not (eqb by 255) || inOneByte (t .run .outputs) (u .run .outputs)) ≡ true)
-    → Leads from (cs ++ changing (t .run .outputs) (u .run .outputs) by (u .ticks)) u
+    → Reached from (cs ++ changing (t .run .outputs) (u .run .outputs) by (u .ticks)) u
 unfolding areNext
-more-leads from cs t u by l le g f is written =
-    if-case (λ ds. Leads from (cs ++ ds) u) (eqb (t .run .outputs) (u .run .outputs))
+more-reached from cs t u by l le g f is written =
+    if-case (λ ds. Reached from (cs ++ ds) u) (eqb (t .run .outputs) (u .run .outputs))
     (λ e. rw append-nil (record { next = l .next; tick = omega (arith, l .tick); word = l .word ∙ eqb-true _ _ e }))
     (λ ne.
     let p = lastOf from cs in
@@ -156,21 +156,21 @@ more-leads from cs t u by l le g f is written =
     })
 
 module _ (from : Change) (cs : List Change) (t : Told) (h : Held) (m : Made) (g : Agrees t (h .state)) (i : Invariant (h .state))
-    (bytes : areOfBytes (m .areas) ≡ true) (f : Fit t) (l : Leads from cs t) (other : isPowerOn (m .call) ≡ false) where
+    (bytes : areOfBytes (m .areas) ≡ true) (f : InRange t) (l : Reached from cs t) (other : isPowerOn (m .call) ≡ false) where
   abbrev u : Told
   u = tell t (note h m)
 
   -- a call other than power-on
-  change-leads : Leads from (cs ++ change t (note h m)) u
+  change-reached : Reached from (cs ++ change t (note h m)) u
   unfolding change note next
-  change-leads =
+  change-reached =
       let s = said t (note h m) in
       let gone : Agrees u (next h m .state) = agrees-next t h m i g in
       let word : outcome h m .state .run .outputs ≡ u .run .outputs = ap (λ (r : Run). r .outputs) (gone .run) in
       let line : u .run .line < 200 = rw (gone .run) at (next-invariant h m i .run .lineInProgram) in
-      let leads = more-leads from cs t u (causeOf s (u .run .line)) l (later t h m g bytes f other) f (fit-next t h m g bytes f)
+      let reached = more-reached from cs t u (causeOf s (u .run .line)) l (later t h m g bytes f other) f (range-next t h m g bytes f)
       (cause-is s (u .run .line) line) (λ ne. cause-written s (u .run .line) line _ (λ is. in-one-byte t h m g bytes f other is ne)) in
-      subst (λ w. Leads from (cs ++ changing (t .run .outputs) w (causeOf s (u .run .line)) (u .ticks)) u) (sym word) leads
+      subst (λ w. Reached from (cs ++ changing (t .run .outputs) w (causeOf s (u .run .line)) (u .ticks)) u) (sym word) reached
 
   -- its change, if it makes one, has the tick count after it
   change-from : From (u .ticks) (change t (note h m))
@@ -184,9 +184,10 @@ pub record Grown (from : Change) (cs : List Change) (t : ℕ) (all : List Change
   pub more : List Change
   pub is : all ≡ cs ++ more
   pub late : From t more
-  pub leads : Leads from all u
+  pub reached : Reached from all u
 
-module _ (from : Change) (cs : List Change) (t : Told) (h : Held) (g : Agrees t (h .state)) (i : Invariant (h .state)) (f : Fit t) (l : Leads from cs t) where
+module _ (from : Change) (cs : List Change) (t : Told) (h : Held) (g : Agrees t (h .state)) (i : Invariant (h .state)) (f : InRange t)
+    (l : Reached from cs t) where
   abbrev GrownBy : Made → Call → Type 0
   GrownBy m k = Grown from cs (tell t (note h m) .ticks) (sinceCall cs t (note h m) k) (tell t (note h m))
 
@@ -197,7 +198,7 @@ module _ (from : Change) (cs : List Change) (t : Told) (h : Held) (g : Agrees t 
         more = change t (note h m);
         is = refl;
         late = change-from from cs t h m g i b f l other;
-        leads = change-leads from cs t h m g i b f l other;
+        reached = change-reached from cs t h m g i b f l other;
       }
 
   pub grown-one : (k : Call) (a : Areas) → let m : Made = record { call = k; areas = a } in
@@ -210,13 +211,13 @@ module _ (from : Change) (cs : List Change) (t : Told) (h : Held) (g : Agrees t 
   grown-one emptying a b e =
       let m : Made = record { call = emptying; areas = a } in
       let stays : tell t (note h m) ≡ t = tell-refused t h m refl e in
-      rw (e, stays) (record { more = []; is = sym (append-nil cs); late = tt; leads = l })
+      rw (e, stays) (record { more = []; is = sym (append-nil cs); late = tt; reached = l })
 
 pub grown-all : (from : Change) (cs : List Change) (t : Told) (h : Held) (ms : List Made) → Agrees t (h .state) → Invariant (h .state)
-    → lendBytes ms ≡ true → Fit t
-    → Leads from cs t → noneBegins (notes h ms) ≡ true → Grown from cs (t .ticks) (since cs t (notes h ms)) (tellAll t (notes h ms))
+    → lendBytes ms ≡ true → InRange t
+    → Reached from cs t → noneBegins (notes h ms) ≡ true → Grown from cs (t .ticks) (since cs t (notes h ms)) (tellAll t (notes h ms))
 unfolding since notes note tellAll
-grown-all from cs t h [] g i b f l e = record { more = []; is = sym (append-nil cs); late = tt; leads = l }
+grown-all from cs t h [] g i b f l e = record { more = []; is = sym (append-nil cs); late = tt; reached = l }
 grown-all from cs t h (m ∷ ms) g i b f l e =
     let two = both-true (areOfBytes (m .areas)) (lendBytes ms) b in
     let calm = both-true (not (begins (note h m))) (noneBegins (notes (next h m) ms)) e in
@@ -224,45 +225,48 @@ grown-all from cs t h (m ∷ ms) g i b f l e =
     let one = grown-one from cs t h g i f l (m .call) (m .areas) (two .0) quiet in
     let le = later t h m g (two .0) f (neither (isPowerOn (m .call)) _ quiet .0) in
     let u = tell t (note h m) in
-    let rest = grown-all from _ u (next h m) ms (agrees-next t h m i g) (next-invariant h m i) (two .1) (fit-next t h m g (two .0) f) (one .leads) (calm .1) in
+    let rest = grown-all from _ u (next h m) ms (agrees-next t h m i g) (next-invariant h m i) (two .1) (range-next t h m g (two .0) f)
+    (one .reached) (calm .1) in
     record {
       more = one .more ++ rest .more;
       is = rest .is ∙ ap (λ l. l ++ rest .more) (one .is) ∙ append-assoc cs (one .more) (rest .more);
       late = from-append (t .ticks) (one .more) (rest .more) (from-sooner (t .ticks) (u .ticks) (one .more) le (one .late))
           (from-sooner (t .ticks) (u .ticks) (rest .more) le (rest .late));
-      leads = rest .leads;
+      reached = rest .reached;
     }
 
 -- ---- any calls
 
-pub record SomeLeads (cs : List Change) (t : Told) : Type 0 where
+pub record SomeReached (cs : List Change) (t : Told) : Type 0 where
   pub from : Change
-  pub leads : Leads from cs t
+  pub reached : Reached from cs t
 
-leads-next : (cs : List Change) (t : Told) (h : Held) (k : Call) (a : Areas) → let m : Made = record { call = k; areas = a } in
-    Agrees t (h .state) → Invariant (h .state) → areOfBytes a ≡ true → Fit t → SomeLeads cs t → SomeLeads (sinceCall cs t (note h m) k) (tell t (note h m))
+reached-next : (cs : List Change) (t : Told) (h : Held) (k : Call) (a : Areas)
+    → let m : Made = record { call = k; areas = a } in
+    Agrees t (h .state) → Invariant (h .state) → areOfBytes a ≡ true → InRange t → SomeReached cs t
+    → SomeReached (sinceCall cs t (note h m) k) (tell t (note h m))
 unfolding note
-leads-next cs t h powerOn a g i b f l = record { from = _; leads = none-leads _ }
-leads-next cs t h (byte x) a g i b f l = record { from = l .from; leads = change-leads (l .from) cs t h _ g i b f (l .leads) refl }
-leads-next cs t h tick a g i b f l = record { from = l .from; leads = change-leads (l .from) cs t h _ g i b f (l .leads) refl }
-leads-next cs t h (press n) a g i b f l = record { from = l .from; leads = change-leads (l .from) cs t h _ g i b f (l .leads) refl }
-leads-next cs t h emptying a g i b f l =
+reached-next cs t h powerOn a g i b f l = record { from = _; reached = none-reached _ }
+reached-next cs t h (byte x) a g i b f l = record { from = l .from; reached = change-reached (l .from) cs t h _ g i b f (l .reached) refl }
+reached-next cs t h tick a g i b f l = record { from = l .from; reached = change-reached (l .from) cs t h _ g i b f (l .reached) refl }
+reached-next cs t h (press n) a g i b f l = record { from = l .from; reached = change-reached (l .from) cs t h _ g i b f (l .reached) refl }
+reached-next cs t h emptying a g i b f l =
     let m : Made = record { call = emptying; areas = a } in
-    if-case (λ ds. SomeLeads ds (tell t (note h m))) (isAccepted h m) (λ _. record { from = _; leads = none-leads _ })
-    (λ bad. subst (λ x. SomeLeads cs x) (sym (tell-refused t h m refl bad)) l)
+    if-case (λ ds. SomeReached ds (tell t (note h m))) (isAccepted h m) (λ _. record { from = _; reached = none-reached _ })
+    (λ bad. subst (λ x. SomeReached cs x) (sym (tell-refused t h m refl bad)) l)
 
-leads-after : (cs : List Change) (t : Told) (h : Held) (ms : List Made) → Agrees t (h .state) → Invariant (h .state) → lendBytes ms ≡ true → Fit t
-    → SomeLeads cs t → SomeLeads (since cs t (notes h ms)) (tellAll t (notes h ms)) × Fit (tellAll t (notes h ms))
+reached-after : (cs : List Change) (t : Told) (h : Held) (ms : List Made) → Agrees t (h .state) → Invariant (h .state) → lendBytes ms ≡ true → InRange t
+    → SomeReached cs t → SomeReached (since cs t (notes h ms)) (tellAll t (notes h ms)) × InRange (tellAll t (notes h ms))
 unfolding since notes note tellAll
-leads-after cs t h [] g i b f l = (l, f)
-leads-after cs t h (m ∷ ms) g i b f l =
+reached-after cs t h [] g i b f l = (l, f)
+reached-after cs t h (m ∷ ms) g i b f l =
     let two = both-true (areOfBytes (m .areas)) (lendBytes ms) b in
-    leads-after _ (tell t (note h m)) (next h m) ms (agrees-next t h m i g) (next-invariant h m i) (two .1) (fit-next t h m g (two .0) f)
-    (leads-next cs t h (m .call) (m .areas) g i (two .0) f l)
+    reached-after _ (tell t (note h m)) (next h m) ms (agrees-next t h m i g) (next-invariant h m i) (two .1) (range-next t h m g (two .0) f)
+    (reached-next cs t h (m .call) (m .areas) g i (two .0) f l)
 
 -- The changes lead to what the history says, after any calls whose lent areas hold bytes.
-pub changes-lead : (ms : List Made) → lendBytes ms ≡ true → SomeLeads (changes ms) (told ms) × Fit (told ms)
+pub changes-lead : (ms : List Made) → lendBytes ms ≡ true → SomeReached (changes ms) (told ms) × InRange (told ms)
 unfolding changes told
 changes-lead ms bytes =
-    leads-after [] (powered 0) unpowered ms (fresh-agrees 0) (fresh-invariant 0) bytes (record { ticks = omega arith; word = omega arith })
-    (record { from = _; leads = none-leads _ })
+    reached-after [] (powered 0) unpowered ms (fresh-agrees 0) (fresh-invariant 0) bytes (record { ticks = omega arith; word = omega arith })
+    (record { from = _; reached = none-reached _ })

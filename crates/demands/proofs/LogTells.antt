@@ -25,12 +25,12 @@ use Rattle.controller.proofs.Refusals.{checked-log, area-long, log-long, accept
 use Rattle.controller.proofs.Logging.{Ordinary, aByte, aTick, aPress, ordinaryChange, logged-is}
 use Rattle.demands.specs.Histories.{Made, powering, emptyingTo, Held, unpowered, outcome, isAccepted, next, after, HandsOn, AllHandOn}
 use Rattle.demands.specs.Seen.{isTaken, seen, note, notes}
-use Rattle.demands.specs.Told.{Told, powered, tell, tellAll, told}
+use Rattle.demands.specs.Told.{Told, tell, told}
 use Rattle.demands.specs.Changes.{change, sinceCall, since, changes}
 use Rattle.demands.proofs.Answered.{next-invariant, invariant-always}
 use Rattle.demands.proofs.Agrees.{Agrees}
 use Rattle.demands.proofs.Changing.{change-as-told, no-change}
-use Rattle.demands.proofs.Telling.{agrees-next, after-more}
+use Rattle.demands.proofs.Telling.{agrees-next, after-more, changes-more}
 use Rattle.demands.proofs.AsTold.{held-as-told}
 use Rattle.demands.proofs.Steps.{deed, Step, passes, fails, stepped, refused-held}
 
@@ -108,18 +108,6 @@ tells-after cs t h [] g i hands tl = tl
 tells-after cs t h (m ∷ ms) g i hands tl =
     tells-after _ (tell t (note h m)) (next h m) ms (agrees-next t h m i g) (next-invariant h m i) (hands .1)
     (tells-next cs t h (m .call) (m .areas) g i (hands .0) tl)
-
--- ---- calls after calls
-
-since-append : (xs ys : List Made) (cs : List Change) (t : Told) (h : Held)
-    → since cs t (notes h (xs ++ ys)) ≡ since (since cs t (notes h xs)) (tellAll t (notes h xs)) (notes (after h xs) ys)
-unfolding since notes tellAll after
-since-append [] ys cs t h = refl
-since-append (m ∷ xs) ys cs t h = since-append xs ys _ (tell t (note h m)) (next h m)
-
-changes-more : (xs ys : List Made) → changes (xs ++ ys) ≡ since (changes xs) (told xs) (notes (after unpowered xs) ys)
-unfolding changes told
-changes-more xs ys = since-append xs ys [] (powered 0) unpowered
 
 -- what an accepted emptying leaves in its destination, and the count that it returns
 copied : (h : Held) (a : Areas) → isAccepted h (emptyingTo a) ≡ true

@@ -1,28 +1,25 @@
--- 02, item 8: what the yard wants the new record for. From a log the outputs are known at the end of every tick outside the gap, and after the gap too;
--- and logs emptied one after the other join.
+-- 02, item 8: what the yard wants the new record for. From a log the outputs are known at the end of every tick that ended before the emptying and is
+-- outside the gap, and at the emptying too; and logs emptied one after the other join.
 -- Assumes nothing.
 use mathlib.Core.Path.{_≡_, refl, sym, ap, subst, _∙_}
-use Prim.Native.Nat.{ℕ, suc, _≤_, _<_}
-use native.Mathlib.Omega.{arith}
+use Prim.Native.Nat.{ℕ, suc, _≤_}
 use native.Mathlib.Numerals.{add-one}
 use mathlib.Core.Bool.{true}
 use mathlib.Core.List.{List, [], _∷_, _++_, append-assoc}
-use lib.ListN.{length}
 use lib.Dec.{leb}
 use borrow.Author.Tests.{leb-true}
 use Rattle.formats.specs.Checks.{passed}
-use Rattle.formats.proofs.Checks.{both-true, passed-same, all-front}
-use Rattle.running.specs.declared.Run.{Run}
+use Rattle.formats.proofs.Checks.{both-true, passed-same, all-front, all-behind}
 use Rattle.log.specs.declared.Change.{Change}
 use Rattle.log.specs.Log.{places}
 use Rattle.reader.specs.declared.Record.{Record}
 use Rattle.reader.specs.declared.Layout.the-variants.{Sixteen}
-use Rattle.reader.specs.Possible.{lastOf, areNext}
+use Rattle.reader.specs.Possible.{areNext}
 use Rattle.reader.specs.Layout.{mostRecords}
 use Rattle.reader.specs.Reading.{reading}
 use Rattle.reader.specs.Produced.{Tells}
-use Rattle.reader.specs.Words.{wordAfter, earliestWord, wordAt, isOutsideGap, latestWord}
-use Rattle.reader.proofs.Words.{From, from-append, last-word, word-between, first-before, earliest-told, word-told, latest-told, some-change}
+use Rattle.reader.specs.Words.{wordAtEnd, earliestWord, wordAt, isOutsideGap, latestWord}
+use Rattle.reader.proofs.Words.{From, from-append, last-word, word-between, first-before, earliest-told, word-told, latest-told}
 use Rattle.controller.specs.Controller.{Areas}
 use Rattle.controller.specs.Refusals.{tick}
 use Rattle.demands.specs.Histories.{Made, powering, ticking, emptyingTo, Held, unpowered, next, after, HandsOn, AllHandOn}
@@ -31,33 +28,11 @@ use Rattle.demands.specs.Told.{Told, said, tell, tellAll, told, afterwar
 use Rattle.demands.specs.Changes.{noneBegins, since, changes}
 use Rattle.demands.specs.LentBytes.{lendsBytes, lendBytes}
 use Rattle.demands.proofs.Answered.{next-invariant, invariant-always}
-use Rattle.demands.proofs.AsTold.{held-as-told}
-use Rattle.demands.proofs.Telling.{agrees-next, tell-taken, after-more, told-more}
-use Rattle.demands.proofs.Leading.{Fit, fit-next, standing, Leads, none-leads, Grown, grown-one, grown-all, changes-lead}
+use Rattle.demands.proofs.AsTold.{held-as-told, outputs-as-told}
+use Rattle.demands.proofs.Telling.{agrees-next, tell-taken, after-more, told-more, changes-more}
+use Rattle.demands.proofs.Leading.{InRange, range-next, standing, Reached, none-reached, Grown, grown-one, grown-all, changes-lead}
 use Rattle.demands.proofs.LogTells as LogTells
 use Rattle.demands.proofs.LogReads as LogReads
-
--- ---- what the outputs are, by the history
-
-outputs-told : (ms : List Made) → outputs ms ≡ told ms .run .outputs
-unfolding outputs
-outputs-told ms = ap (λ (r : Run). r .outputs) (held-as-told ms .run)
-
--- calls after calls
-since-append : (cs : List Change) (t : Told) (h : Held) (xs ys : List Made)
-    → since cs t (notes h (xs ++ ys)) ≡ since (since cs t (notes h xs)) (tellAll t (notes h xs)) (notes (after h xs) ys)
-unfolding since notes tellAll after
-since-append cs t h [] ys = refl
-since-append cs t h (m ∷ xs) ys = since-append _ (tell t (note h m)) (next h m) xs ys
-
-changes-more : (xs ys : List Made) → changes (xs ++ ys) ≡ since (changes xs) (told xs) (notes (after unpowered xs) ys)
-unfolding changes told
-changes-more xs ys = since-append [] _ unpowered xs ys
-
--- the areas lent to some of the calls
-lend-later : (xs ys : List Made) → lendBytes (xs ++ ys) ≡ true → lendBytes ys ≡ true
-lend-later [] ys e = e
-lend-later (m ∷ xs) ys e = lend-later xs ys (both-true (lendsBytes m) (lendBytes (xs ++ ys)) e .1)
 
 -- ---- the changes that come after some calls
 
@@ -68,53 +43,42 @@ module _ (xs : List Made) where
   abbrev t : Told
   t = told xs
 
-  -- to what stands now, by calls that begin no list
-  grown-since : (from : Change) (ys : List Made) → lendBytes (xs ++ ys) ≡ true → Fit t → Leads from (changes xs) t → noneBegins (notes h ys) ≡ true
-      → Grown from (changes xs) (t .ticks) (changes (xs ++ ys)) (told (xs ++ ys))
-  grown-since from ys b f l none =
-      subst (λ ds. Grown from (changes xs) (t .ticks) ds (told (xs ++ ys))) (sym (changes-more xs ys))
-      (subst (λ u. Grown from (changes xs) (t .ticks) (since (changes xs) t (notes h ys)) u) (sym (told-more xs ys))
-      (grown-all from (changes xs) t h ys (held-as-told xs) (invariant-always xs) (lend-later xs ys b) f l none))
+  module _ (from : Change) (f : InRange t) (l : Reached from (changes xs) t) where
+    -- to what stands now, by calls that begin no list
+    grown-since : (ys : List Made) → lendBytes (xs ++ ys) ≡ true → noneBegins (notes h ys) ≡ true
+        → Grown from (changes xs) (t .ticks) (changes (xs ++ ys)) (told (xs ++ ys))
+    grown-since ys b none =
+        subst (λ ds. Grown from (changes xs) (t .ticks) ds (told (xs ++ ys))) (sym (changes-more xs ys))
+        (subst (λ u. Grown from (changes xs) (t .ticks) (since (changes xs) t (notes h ys)) u) (sym (told-more xs ys))
+        (grown-all from (changes xs) t h ys (held-as-told xs) (invariant-always xs) (all-behind lendsBytes xs ys b) f l none))
 
-  -- by a tick that is taken, and calls after it: the first of them is a tick later
-  module _ (b : Areas) (ys : List Made) (ok : isTaken (seen xs (ticking b)) ≡ true) (bytes : lendBytes (xs ++ (ticking b ∷ ys)) ≡ true) (f : Fit t)
-      (from : Change) (l : Leads from (changes xs) t) (none : noneBegins (notes h (ticking b ∷ ys)) ≡ true) where
-    abbrev u : Told
-    u = tell t (note h (ticking b))
+    -- by a tick that is taken, and calls after it: the first of them is a tick later
+    module _ (b : Areas) (ys : List Made) (ok : isTaken (seen xs (ticking b)) ≡ true) (bytes : lendBytes (xs ++ (ticking b ∷ ys)) ≡ true)
+        (none : noneBegins (notes h (ticking b ∷ ys)) ≡ true) where
+      abbrev u : Told
+      u = tell t (note h (ticking b))
 
-    ticked : u .ticks ≡ suc (t .ticks)
-    unfolding seen afterwards
-    ticked = ap (λ (x : Told). x .ticks) (tell-taken t h (ticking b) refl ok) ∙ add-one (t .ticks)
+      ticked : u .ticks ≡ suc (t .ticks)
+      unfolding seen afterwards
+      ticked = ap (λ (x : Told). x .ticks) (tell-taken t h (ticking b) refl ok) ∙ add-one (t .ticks)
 
-    grown-ticked : Grown from (changes xs) (suc (t .ticks)) (changes (xs ++ (ticking b ∷ ys))) (told (xs ++ (ticking b ∷ ys)))
-    unfolding since notes note tellAll
-    grown-ticked =
-        let g = held-as-told xs in
-        let i = invariant-always xs in
-        let two = both-true (lendsBytes (ticking b)) (lendBytes ys) (lend-later xs (ticking b ∷ ys) bytes) in
-        let calm = both-true true (noneBegins (notes (next h (ticking b)) ys)) none in
-        let one = grown-one from (changes xs) t h g i f l tick b (two .0) refl in
-        let rest = grown-all from _ u (next h (ticking b)) ys (agrees-next t h (ticking b) i g) (next-invariant h (ticking b) i) (two .1)
-        (fit-next t h (ticking b) g (two .0) f) (one .leads) (calm .1) in
-        record {
-          more = one .more ++ rest .more;
-          is = changes-more xs (ticking b ∷ ys) ∙ rest .is ∙ ap (λ ds. ds ++ rest .more) (one .is) ∙ append-assoc (changes xs) (one .more) (rest .more);
-          late = subst (λ n. From n (one .more ++ rest .more)) ticked (from-append (u .ticks) (one .more) (rest .more) (one .late) (rest .late));
-          leads = subst (λ ds. Leads from ds (told (xs ++ (ticking b ∷ ys)))) (sym (changes-more xs (ticking b ∷ ys)))
-              (subst (λ v. Leads from (since (changes xs) t (notes h (ticking b ∷ ys))) v) (sym (told-more xs (ticking b ∷ ys))) (rest .leads));
-        }
-
-  -- an emptying that is taken leaves the outputs, and the changes begin anew
-  module _ (b : Areas) (ok : isTaken (seen xs (emptyingTo b)) ≡ true) where
-    emptied-changes : changes (xs ++ (emptyingTo b ∷ [])) ≡ []
-    unfolding since notes note seen
-    emptied-changes = changes-more xs (emptyingTo b ∷ []) ∙ rw ok
-
-    emptied-outputs : outputs (xs ++ (emptyingTo b ∷ [])) ≡ outputs xs
-    unfolding seen tellAll notes note afterwards said
-    emptied-outputs =
-        outputs-told (xs ++ (emptyingTo b ∷ []))
-        ∙ ap (λ (v : Told). v .run .outputs) (told-more xs (emptyingTo b ∷ []) ∙ tell-taken t h (emptyingTo b) refl ok) ∙ sym (outputs-told xs)
+      grown-ticked : Grown from (changes xs) (suc (t .ticks)) (changes (xs ++ (ticking b ∷ ys))) (told (xs ++ (ticking b ∷ ys)))
+      unfolding since notes note tellAll
+      grown-ticked =
+          let g = held-as-told xs in
+          let i = invariant-always xs in
+          let two = both-true (lendsBytes (ticking b)) (lendBytes ys) (all-behind lendsBytes xs (ticking b ∷ ys) bytes) in
+          let calm = both-true true (noneBegins (notes (next h (ticking b)) ys)) none in
+          let one = grown-one from (changes xs) t h g i f l tick b (two .0) refl in
+          let rest = grown-all from _ u (next h (ticking b)) ys (agrees-next t h (ticking b) i g) (next-invariant h (ticking b) i) (two .1)
+          (range-next t h (ticking b) g (two .0) f) (one .reached) (calm .1) in
+          record {
+            more = one .more ++ rest .more;
+            is = changes-more xs (ticking b ∷ ys) ∙ rest .is ∙ ap (λ ds. ds ++ rest .more) (one .is) ∙ append-assoc (changes xs) (one .more) (rest .more);
+            late = subst (λ n. From n (one .more ++ rest .more)) ticked (from-append (u .ticks) (one .more) (rest .more) (one .late) (rest .late));
+            reached = subst (λ ds. Reached from ds (told (xs ++ (ticking b ∷ ys)))) (sym (changes-more xs (ticking b ∷ ys)))
+                (subst (λ v. Reached from (since (changes xs) t (notes h (ticking b ∷ ys))) v) (sym (told-more xs (ticking b ∷ ys))) (rest .reached));
+          }
 
 -- ---- a log that was emptied, and read
 
@@ -123,8 +87,7 @@ module _ (before : List Made) (lent : Areas) (ms : List Made) (hands : AllHandOn
   now = LogTells.now before lent ms hands
 
   module _ (a : Areas) (hand : HandsOn (after unpowered now) (emptyingTo a)) (ok : isTaken (seen now (emptyingTo a)) ≡ true)
-      (bytes : lendBytes now ≡ true) (rs : List Record) (read : reading (emptiedBy now a) ≡ passed rs)
-      (some : 0 < length rs) where
+      (bytes : lendBytes now ≡ true) (rs : List Record) (read : reading (emptiedBy now a) ≡ passed rs) where
     abbrev R : ℕ
     R = places (told now .logLength)
 
@@ -137,67 +100,81 @@ module _ (before : List Made) (lent : Areas) (ms : List Made) (hands : AllHandOn
     two : 2 ≤ R
     two = leb-true 2 R (both-true (leb 2 R) (leb R (mostRecords Sixteen)) (LogReads.emptied-size now a ok) .0)
 
-    -- the same for a list that the changes are
-    module _ (from c : Change) (cs : List Change) (is : changes now ≡ c ∷ cs) (l : Leads from (changes now) (told now)) where
-      these : Tells Sixteen R (c ∷ cs) rs
-      these = subst (λ ds. Tells Sixteen R ds rs) is tells
+    -- The calls zs, after which no change is told yet, as behind each power-on and each emptying that is taken, and those after them, which begin no
+    -- list of changes.
+    module _ (zs ys : List Made) (is : now ≡ zs ++ ys) (fresh : changes zs ≡ []) (none : noneBegins (notes (after unpowered zs) ys) ≡ true) where
+      abbrev from : Change
+      from = standing (told zs)
 
-      leads : areNext from (c ∷ cs) ≡ true
-      leads = ap (areNext from) (sym is) ∙ l .next
+      lends : lendBytes (zs ++ ys) ≡ true
+      lends = ap lendBytes (sym is) ∙ bytes
 
-      earliest : earliestWord rs ≡ from .word
-      earliest = earliest-told R c cs rs two these ∙ first-before from c cs leads
+      range : InRange (told zs)
+      range = changes-lead zs (all-front lendsBytes zs ys lends) .1
 
-      latest : latestWord rs ≡ told now .run .outputs
-      latest = latest-told R c cs rs two these ∙ last-word from (c ∷ cs) ∙ ap (λ ds. lastOf from ds .word) (sym is) ∙ l .word
+      begun : Reached from (changes zs) (told zs)
+      begun = subst (λ ds. Reached from ds (told zs)) (sym fresh) (none-reached (told zs))
 
-      at-tick : (t : ℕ) (old new : List Change) → changes now ≡ old ++ new → areNext from old ≡ true → lastOf from old .tick ≤ t → From (suc t) new
-          → isOutsideGap t rs ≡ true → wordAt t rs ≡ lastOf from old .word
-      at-tick t old new split e le late out =
-          word-told R c cs rs two these t out ∙ ap (λ w. wordAfter t w (c ∷ cs)) (first-before from c cs leads)
-          ∙ ap (wordAfter t (from .word)) (sym is ∙ split) ∙ word-between t from old new e le late
+      reached : Reached from (changes now) (told now)
+      reached = subst (λ us. Reached from (changes us) (told us)) (sym is) (grown-since zs from range begun ys lends none .reached)
 
-    -- some of them, as the log has a record
-    first-of : (ds : List Change) → changes now ≡ ds → (c : Change) × (cs : List Change) × (changes now ≡ c ∷ cs)
-    first-of [] e = absurd (omega (arith, some-change R (changes now) rs tells some, ap length e))
-    first-of (c ∷ cs) e = (c, cs, e)
+      stood : from .word ≡ outputs zs
+      stood = sym (outputs-as-told zs)
 
-    -- After the gap, and where there is none after the last change: the word that the log tells last is the one that stands when it is emptied.
-    pub latest-word : latestWord rs ≡ outputs now
-    latest-word =
-        let l = changes-lead now bytes .0 in
-        let x = first-of (changes now) refl in
-        latest (l .from) (x .0) (x .1) (x .2) (l .leads) ∙ sym (outputs-told now)
+      -- The word before all of the log, which its first record calls the earlier one, is the one that stood then.
+      pub earliest-word : earliestWord (outputs zs) rs ≡ outputs zs
+      earliest-word =
+          subst (λ w. earliestWord w rs ≡ w) stood
+          (earliest-told R (changes now) rs two tells (from .word) ∙ first-before from (changes now) (reached .next))
 
-    -- Since power-on or the last emptying, at the end of every tick outside the gap, that is when the next tick is taken: the word that the log tells for
-    -- it is the one that stood.
-    pub word-at-tick : (xs ys : List Made) (b : Areas) → now ≡ xs ++ (ticking b ∷ ys) → isTaken (seen xs (ticking b)) ≡ true
-        → noneBegins (notes (after unpowered xs) (ticking b ∷ ys)) ≡ true → isOutsideGap (told xs .ticks) rs ≡ true
-        → wordAt (told xs .ticks) rs ≡ outputs xs
-    word-at-tick xs ys b is taken none out =
-        let lends : lendBytes (xs ++ (ticking b ∷ ys)) ≡ true = ap lendBytes (sym is) ∙ bytes in
-        let x = changes-lead xs (all-front lendsBytes xs (ticking b ∷ ys) lends) in
-        let from = x .0 .from in
-        let l = x .0 .leads in
-        let grown = grown-ticked xs b ys taken lends (x .1) from l none in
-        let all : Leads from (changes now) (told now) = subst (λ zs. Leads from (changes zs) (told zs)) (sym is) (grown .leads) in
-        let y = first-of (changes now) refl in
-        at-tick from (y .0) (y .1) (y .2) all (told xs .ticks) (changes xs) (grown .more) (ap changes is ∙ grown .is) (l .next) (l .tick) (grown .late) out
-        ∙ l .word ∙ sym (outputs-told xs)
+      -- After the gap, and where there is none after the last change: the word that the log tells last is the one that stands when it is emptied.
+      pub latest-word : latestWord (outputs zs) rs ≡ outputs now
+      latest-word =
+          subst (λ w. latestWord w rs ≡ outputs now) stood
+          (latest-told R (changes now) rs two tells (from .word) ∙ last-word from (changes now) ∙ reached .word ∙ sym (outputs-as-told now))
 
-    -- After an emptying the first earlier word is the one that stood when that emptying was made.
-    pub earliest-word : (xs ys : List Made) (b : Areas) → now ≡ (xs ++ (emptyingTo b ∷ [])) ++ ys → isTaken (seen xs (emptyingTo b)) ≡ true
-        → noneBegins (notes (after unpowered (xs ++ (emptyingTo b ∷ []))) ys) ≡ true → earliestWord rs ≡ outputs xs
-    earliest-word xs ys b is taken none =
-        let zs = xs ++ (emptyingTo b ∷ []) in
-        let lends : lendBytes (zs ++ ys) ≡ true = ap lendBytes (sym is) ∙ bytes in
-        let fit = changes-lead zs (all-front lendsBytes zs ys lends) .1 in
+    -- At the end of every tick that ended before the emptying and is outside the gap, the word that the log tells for it is the one that stood: when
+    -- the next tick is taken.
+    pub word-at-tick : (zs xs ys : List Made) (b : Areas) → now ≡ (zs ++ xs) ++ (ticking b ∷ ys) → changes zs ≡ []
+        → noneBegins (notes (after unpowered zs) xs) ≡ true → isTaken (seen (zs ++ xs) (ticking b)) ≡ true
+        → noneBegins (notes (after unpowered (zs ++ xs)) (ticking b ∷ ys)) ≡ true → isOutsideGap (told (zs ++ xs) .ticks) rs ≡ true
+        → wordAt (outputs zs) (told (zs ++ xs) .ticks) rs ≡ outputs (zs ++ xs)
+    word-at-tick zs xs ys b is fresh calm taken none out =
+        let us = zs ++ xs in
+        let t = told us .ticks in
         let from = standing (told zs) in
-        let begun : Leads from (changes zs) (told zs) = subst (λ ds. Leads from ds (told zs)) (sym (emptied-changes xs b taken)) (none-leads (told zs)) in
-        let grown = grown-since zs from ys lends fit begun none in
-        let all : Leads from (changes now) (told now) = subst (λ us. Leads from (changes us) (told us)) (sym is) (grown .leads) in
-        let y = first-of (changes now) refl in
-        earliest from (y .0) (y .1) (y .2) all ∙ sym (outputs-told zs) ∙ emptied-outputs xs b taken
+        let lends : lendBytes (us ++ (ticking b ∷ ys)) ≡ true = ap lendBytes (sym is) ∙ bytes in
+        let first = all-front lendsBytes us (ticking b ∷ ys) lends in
+        let range = changes-lead zs (all-front lendsBytes zs xs first) .1 in
+        let begun : Reached from (changes zs) (told zs) = subst (λ ds. Reached from ds (told zs)) (sym fresh) (none-reached (told zs)) in
+        let l = grown-since zs from range begun xs first calm .reached in
+        let grown = grown-ticked us from (changes-lead us first .1) l b ys taken lends none in
+        let split : changes now ≡ changes us ++ grown .more = ap changes is ∙ grown .is in
+        let next : areNext from (changes now) ≡ true = ap (areNext from) (ap changes is) ∙ grown .reached .next in
+        subst (λ w. wordAt w t rs ≡ outputs us) (sym (outputs-as-told zs))
+        (word-told R (changes now) rs two tells (from .word) t out ∙ ap (λ w. wordAtEnd t w (changes now)) (first-before from (changes now) next)
+        ∙ ap (wordAtEnd t (from .word)) split ∙ word-between t from (changes us) (grown .more) (l .next) (l .tick) (grown .late)
+        ∙ l .word ∙ sym (outputs-as-told us))
+
+-- ---- where a log begins
+
+-- Behind a power-on all outputs are off, and no change is told.
+pub powered-begins : (xs : List Made) (lent : Areas) → let zs = xs ++ (powering lent ∷ []) in (changes zs ≡ []) × (outputs zs ≡ 0)
+unfolding since notes note tellAll tell
+powered-begins xs lent =
+    let zs = xs ++ (powering lent ∷ []) in
+    (changes-more xs (powering lent ∷ []), outputs-as-told zs ∙ ap (λ (v : Told). v .run .outputs) (told-more xs (powering lent ∷ [])))
+
+-- Behind an emptying that is taken the outputs are as they were, and no change is told.
+pub emptied-begins : (xs : List Made) (b : Areas) → isTaken (seen xs (emptyingTo b)) ≡ true
+    → let zs = xs ++ (emptyingTo b ∷ []) in (changes zs ≡ []) × (outputs zs ≡ outputs xs)
+unfolding since notes note seen tellAll afterwards said
+emptied-begins xs b ok =
+    let zs = xs ++ (emptyingTo b ∷ []) in
+    let stays = told-more xs (emptyingTo b ∷ []) ∙ tell-taken (told xs) (after unpowered xs) (emptyingTo b) refl ok in (
+      changes-more xs (emptyingTo b ∷ []) ∙ rw ok,
+      outputs-as-told zs ∙ ap (λ (v : Told). v .run .outputs) stays ∙ sym (outputs-as-told xs),
+    )
 
 -- ---- two logs, one emptied after the other
 
@@ -225,20 +202,22 @@ module _ (before : List Made) (lent : Areas) (ms ys : List Made) (b : Areas)
   abbrev twice : List Made
   twice = (before ++ (powering lent ∷ [])) ++ (ms ++ (emptyingTo b ∷ ys))
 
-  twice-is : twice ≡ (once ++ (emptyingTo b ∷ [])) ++ ys
-  twice-is =
-      sym (append-assoc (before ++ (powering lent ∷ [])) ms (emptyingTo b ∷ ys)) ∙ sym (append-assoc once (emptyingTo b ∷ []) ys)
+  joined : twice ≡ once ++ (emptyingTo b ∷ ys)
+  joined = sym (append-assoc (before ++ (powering lent ∷ [])) ms (emptyingTo b ∷ ys))
 
-  once-bytes : lendBytes twice ≡ true → lendBytes once ≡ true
-  once-bytes e = all-front lendsBytes once (emptyingTo b ∷ ys) (ap lendBytes (append-assoc (before ++ (powering lent ∷ [])) ms (emptyingTo b ∷ ys)) ∙ e)
-
-  -- Two logs, with no power-on and no other emptying that is taken between them, join: the first earlier word of the second is the last word of the first.
+  -- Two logs, with no power-on and no other emptying that is taken between them, join: the word that the first tells last is the one that stood before all
+  -- of the second, and so the one that the first record of this calls the earlier. With logs that have no record between them it goes on so, from one to
+  -- the next. The calls zs are those before the first log.
   pub logs-join : (ok : isTaken (seen once (emptyingTo b)) ≡ true) (a : Areas) (hand : HandsOn (after unpowered twice) (emptyingTo a))
       (ok′ : isTaken (seen twice (emptyingTo a)) ≡ true) (bytes : lendBytes twice ≡ true)
-      → noneBegins (notes (after unpowered (once ++ (emptyingTo b ∷ []))) ys) ≡ true → (rs ss : List Record)
-      → reading (emptiedBy once b) ≡ passed rs → 0 < length rs
-      → reading (emptiedBy twice a) ≡ passed ss → 0 < length ss
-      → earliestWord ss ≡ latestWord rs
-  logs-join ok a hand ok′ bytes none rs ss read some read′ some′ =
-      earliest-word before lent (ms ++ (emptyingTo b ∷ ys)) hands a hand ok′ bytes ss read′ some′ once ys b twice-is ok none
-      ∙ sym (latest-word before lent ms first b handed ok (once-bytes bytes) rs read some)
+      → noneBegins (notes (after unpowered (once ++ (emptyingTo b ∷ []))) ys) ≡ true → (zs us : List Made) → once ≡ zs ++ us → changes zs ≡ []
+      → noneBegins (notes (after unpowered zs) us) ≡ true → (rs ss : List Record) → reading (emptiedBy once b) ≡ passed rs
+      → reading (emptiedBy twice a) ≡ passed ss → let w = latestWord (outputs zs) rs in (earliestWord w ss ≡ w) × (w ≡ outputs once)
+  logs-join ok a hand ok′ bytes none zs us is fresh calm rs ss read read′ =
+      let begins = emptied-begins once b ok in
+      let lends = all-front lendsBytes once (emptyingTo b ∷ ys) (ap lendBytes (sym joined) ∙ bytes) in
+      let last = latest-word before lent ms first b handed ok lends rs read zs us is fresh calm in
+      let split = joined ∙ sym (append-assoc once (emptyingTo b ∷ []) ys) in
+      let early = earliest-word before lent (ms ++ (emptyingTo b ∷ ys)) hands a hand ok′ bytes ss read′ (once ++ (emptyingTo b ∷ [])) ys
+      split (begins .0) none in
+      (subst (λ w. earliestWord w ss ≡ w) (begins .1 ∙ sym last) early, last)

@@ -44,4 +44,5 @@ unfolding addChange changeRecord gapRecord
 added-bytes l area c lt e =
     if-case (λ (x : Logged). areBytes (x .area) ≡ true) (ltb (l .kept + 1) (R l))
     (λ _. placed-bytes recordSize (l .kept) _ area (new-record-bytes 1 (c .cause) (c .tick) (c .word) (c .before) (omega arith) lt) e)
-    (λ _. placed-bytes recordSize (l .kept) _ area (new-record-bytes 2 0 (firstLost l c) (oneMoreLost (l .lost)) (c .word) (omega arith) (omega arith)) e)
+    (λ _. placed-bytes recordSize (l .kept) _ area
+    (new-record-bytes 2 0 (firstLost l (c .tick)) (oneMoreLost (l .lost)) (c .word) (omega arith) (omega arith)) e)

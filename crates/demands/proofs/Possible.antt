@@ -13,4 +13,4 @@ use Rattle.demands.proofs.Leading.{changes-lead}
 
 -- After any calls whose lent areas hold bytes, the changes since power-on or the last emptying are possible ones.
 pub changes-possible : (ms : List Made) → lendBytes ms ≡ true → arePossible (changes ms) ≡ true
-changes-possible ms bytes = let l = changes-lead ms bytes .0 in next-possible (l .from) (changes ms) (l .leads .next)
+changes-possible ms bytes = let l = changes-lead ms bytes .0 in next-possible (l .from) (changes ms) (l .reached .next)

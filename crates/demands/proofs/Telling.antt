@@ -18,6 +18,8 @@ use Rattle.controller.specs.Invariant.{Invariant}
 use Rattle.controller.proofs.Logging.{logged-length}
 use Rattle.demands.specs.Histories.{Made, Held, unpowered, isAccepted, next, after}
 use Rattle.demands.specs.Seen.{note, notes}
+use Rattle.log.specs.declared.Change.{Change}
+use Rattle.demands.specs.Changes.{since, changes}
 use Rattle.demands.specs.Told.{Told, powered, afterwards, said, tell, tellAll, told}
 use Rattle.demands.proofs.Steps.{deed, heldThen, Step, passes, fails, stepped, refused-held}
 use Rattle.demands.proofs.Collects.{nothing-collected}
@@ -115,3 +117,14 @@ after-more xs ys = after-append xs ys unpowered
 pub told-more : (xs ys : List Made) → told (xs ++ ys) ≡ tellAll (told xs) (notes (after unpowered xs) ys)
 unfolding told
 told-more xs ys = notes-append xs ys unpowered (powered 0)
+
+-- the changes that they tell
+since-append : (xs ys : List Made) (cs : List Change) (t : Told) (h : Held)
+    → since cs t (notes h (xs ++ ys)) ≡ since (since cs t (notes h xs)) (tellAll t (notes h xs)) (notes (after h xs) ys)
+unfolding since notes tellAll after
+since-append [] ys cs t h = refl
+since-append (m ∷ xs) ys cs t h = since-append xs ys _ (tell t (note h m)) (next h m)
+
+pub changes-more : (xs ys : List Made) → changes (xs ++ ys) ≡ since (changes xs) (told xs) (notes (after unpowered xs) ys)
+unfolding changes told
+changes-more xs ys = since-append xs ys [] (powered 0) unpowered

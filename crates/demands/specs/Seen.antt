@@ -25,7 +25,7 @@ seenOf r = record { refusal = r .refusal; lines = r .lines; written = r .written
 abbrev pub isTaken : Seen → Bool
 isTaken s = eqb (s .refusal) 0
 
--- the reply's bytes, as they stand in their area
+-- the reply's bytes, or those that emptying copied, as they stand in their area
 abbrev pub reply : Seen → List ℕ
 reply s = take (s .written) (s .areas .out)
 
@@ -40,7 +40,7 @@ seen ms m = seenOf (outcome (after unpowered ms) m)
 
 -- the bytes that an emptying after the calls ms copies to the start of its destination
 abbrev pub emptiedBy : List Made → Areas → List ℕ
-emptiedBy ms a = let s = seen ms (emptyingTo a) in take (s .written) (s .areas .out)
+emptiedBy ms a = reply (seen ms (emptyingTo a))
 
 -- the 32 outputs after the calls ms, which can be seen at any time
 unfoldable pub outputs : List Made → ℕ

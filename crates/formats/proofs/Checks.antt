@@ -145,6 +145,11 @@ all-front f (x ∷ xs) ys e =
     let p = both-true (f x) (all f (xs ++ ys)) e in
     rw (p .0) (all-front f xs ys (p .1))
 
+-- and over the others
+pub all-behind : {A : Type 0} (f : A → Bool) (xs ys : List A) → all f (xs ++ ys) ≡ true → all f ys ≡ true
+all-behind f [] ys e = e
+all-behind f (x ∷ xs) ys e = all-behind f xs ys (both-true (f x) (all f (xs ++ ys)) e .1)
+
 -- what computed lists are judged by: the same numbers in the same order are one list
 pub same-equal : (xs ys : List ℕ) → same xs ys ≡ true → xs ≡ ys
 same-equal [] [] e = refl

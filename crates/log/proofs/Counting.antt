@@ -73,13 +73,13 @@ module _ (cs : List Change) (l : Log) (area : List ℕ) (c : Change) (enough : l
     number-more : oneMoreLost (l .lost) ≡ min (length (lost ++ (c ∷ []))) mostLost
     number-more = omega (arith, h .lostIs, one-more-is (l .lost) (omega (arith, h .lostIs)), lost-long, length-append lost (c ∷ []))
 
-    first-more : firstLost l c ≡ firstTick (lost ++ (c ∷ []))
+    first-more : firstLost l (c .tick) ≡ firstTick (lost ++ (c ∷ []))
     first-more =
         ap (λ t. if eqb (l .lost) 0 then c .tick else t) (h .firstIs)
         ∙ first-snoc lost c (l .lost) (h .lostIs ∙ ap (λ n. min n mostLost) (sym lost-long))
 
     -- The gap that is written is the one over all changes lost.
-    pub gap-more : gapRecord (firstLost l c) (oneMoreLost (l .lost)) (c .word) ≡ gapOver (lost ++ (c ∷ []))
+    pub gap-more : gapRecord (firstLost l (c .tick)) (oneMoreLost (l .lost)) (c .word) ≡ gapOver (lost ++ (c ∷ []))
     gap-more =
         rw (first-more, number-more)
         (ap (gapRecord _ _) (sym (word-snoc 0 lost c)) ∙ sym (gap-tells (lost ++ (c ∷ [])) (omega (arith, length-append lost (c ∷ [])))))
