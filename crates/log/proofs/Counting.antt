@@ -15,7 +15,8 @@ use Rattle.formats.proofs.Checks.{if-case}
 use Rattle.log.specs.declared.Change.{Change}
 use Rattle.log.specs.declared.Log.{Log}
 use Rattle.log.specs.Record.{recordSize, leastArea, gapRecord}
-use Rattle.log.specs.Log.{R, mostLost, recordDue, Logged, recorded, oneMoreLost, firstLost, addChange, held, emptied, firstTick, lastWord, gapOver}
+use Rattle.log.specs.Log.{R, mostLost, recordDue, Logged, recorded, oneMoreLost, firstLost, addChange}
+use Rattle.log.specs.Log.{held, emptied, firstTick, lastWord, lostNumber, gapOver}
 
 -- ---- one change more among those lost
 
@@ -30,12 +31,12 @@ word-snoc w [] c = refl
 word-snoc w (d ∷ cs) c = word-snoc (d .word) cs c
 
 -- its tick is the first, if no other is lost
-first-snoc : (cs : List Change) (c : Change) (n : ℕ) → n ≡ min (length cs) mostLost → (if eqb n 0 then c .tick else firstTick cs) ≡ firstTick (cs ++ (c ∷ []))
+first-snoc : (cs : List Change) (c : Change) (n : ℕ) → n ≡ lostNumber cs → (if eqb n 0 then c .tick else firstTick cs) ≡ firstTick (cs ++ (c ∷ []))
 first-snoc [] c n e = rw (eq-eqb n 0 (omega (arith, e)))
 first-snoc (d ∷ cs) c n e = rw (ne-eqb n 0 (λ z. omega (arith, e)))
 
 -- the gap over some changes, by what it tells of them
-gap-tells : (cs : List Change) → 0 < length cs → gapOver cs ≡ gapRecord (firstTick cs) (min (length cs) mostLost) (lastWord 0 cs)
+gap-tells : (cs : List Change) → 0 < length cs → gapOver cs ≡ gapRecord (firstTick cs) (lostNumber cs) (lastWord 0 cs)
 unfolding gapOver
 gap-tells [] lt = absurd (omega arith)
 gap-tells (c ∷ cs) lt = refl
@@ -70,7 +71,7 @@ module _ (cs : List Change) (l : Log) (area : List ℕ) (c : Change) (enough : l
     lost-more = drop-append-le (R l - 1) cs (c ∷ []) many
 
     -- the number, the first tick and the word of the gap
-    number-more : oneMoreLost (l .lost) ≡ min (length (lost ++ (c ∷ []))) mostLost
+    number-more : oneMoreLost (l .lost) ≡ lostNumber (lost ++ (c ∷ []))
     number-more = omega (arith, h .lostIs, one-more-is (l .lost) (omega (arith, h .lostIs)), lost-long, length-append lost (c ∷ []))
 
     first-more : firstLost l (c .tick) ≡ firstTick (lost ++ (c ∷ []))
