@@ -36,6 +36,10 @@ use Rattle.demands.proofs.LogReads as LogReads
 
 -- ---- the changes that come after some calls
 
+-- where none is told yet, the outputs stand from which the next leads
+begun-at : (zs : List Made) → changes zs ≡ [] → Reached (standing (told zs)) (changes zs) (told zs)
+begun-at zs fresh = subst (λ ds. Reached (standing (told zs)) ds (told zs)) (sym fresh) (none-reached (told zs))
+
 module _ (xs : List Made) where
   abbrev h : Held
   h = after unpowered xs
@@ -112,11 +116,8 @@ module _ (before : List Made) (lent : Areas) (ms : List Made) (hands : AllHandOn
       range : InRange (told zs)
       range = changes-lead zs (all-front lendsBytes zs ys lends) .1
 
-      begun : Reached from (changes zs) (told zs)
-      begun = subst (λ ds. Reached from ds (told zs)) (sym fresh) (none-reached (told zs))
-
       reached : Reached from (changes now) (told now)
-      reached = subst (λ us. Reached from (changes us) (told us)) (sym is) (grown-since zs from range begun ys lends none .reached)
+      reached = subst (λ us. Reached from (changes us) (told us)) (sym is) (grown-since zs from range (begun-at zs fresh) ys lends none .reached)
 
       stood : from .word ≡ outputs zs
       stood = sym (outputs-as-told zs)
@@ -146,8 +147,7 @@ module _ (before : List Made) (lent : Areas) (ms : List Made) (hands : AllHandOn
         let lends : lendBytes (us ++ (ticking b ∷ ys)) ≡ true = ap lendBytes (sym is) ∙ bytes in
         let first = all-front lendsBytes us (ticking b ∷ ys) lends in
         let range = changes-lead zs (all-front lendsBytes zs xs first) .1 in
-        let begun : Reached from (changes zs) (told zs) = subst (λ ds. Reached from ds (told zs)) (sym fresh) (none-reached (told zs)) in
-        let l = grown-since zs from range begun xs first calm .reached in
+        let l = grown-since zs from range (begun-at zs fresh) xs first calm .reached in
         let grown = grown-ticked us from (changes-lead us first .1) l b ys taken lends none in
         let split : changes now ≡ changes us ++ grown .more = ap changes is ∙ grown .is in
         let next : areNext from (changes now) ≡ true = ap (areNext from) (ap changes is) ∙ grown .reached .next in
