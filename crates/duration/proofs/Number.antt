@@ -3,16 +3,20 @@
 use Prim.Native.Nat.{ℕ, _-_}
 use native.Mathlib.Omega.{arith}
 use mathlib.Core.Path.{_≡_, refl, ap, _∙_}
+use mathlib.Core.Bool.{false}
 use mathlib.Core.List.{List}
 use Rattle.lines.specs.declared.Line.the-variants.{State}
 use Rattle.lines.specs.Program.{lineAt}
 use Rattle.running.specs.declared.Ran.{Ran}
 use Rattle.running.specs.Running.{free, allFree, begun, stopped, withOutputs, stops, start}
 use Rattle.running.proofs.Steps.{end-mark}
-use Rattle.duration.specs.ByTheRule.{after, EndsAfter}
-use Rattle.duration.specs.Ticks.{runTicks}
+use Rattle.duration.specs.ByTheRule.{after, EndsAfter, TakesTicks}
+use Rattle.duration.specs.Ticks.{runTicks, idles, hasBad}
+use Rattle.duration.specs.Loops.{isTangled, endsInside}
+use Rattle.duration.specs.Reasons.{End}
 use Rattle.duration.proofs.Lines.{replicated}
 use Rattle.duration.proofs.Arriving.{Arrives, Free, Passes}
+use Rattle.duration.proofs.Judging.{sound}
 use Rattle.duration.proofs.Sound.{Sound, whole}
 use Rattle.duration.proofs.Passing.{passes}
 
@@ -33,5 +37,10 @@ module _ (p : List ℕ) (e : ℕ) (s : Sound p e) (o : ℕ) (mark : lineAt p e �
       record { before = a .reaches .before; event = ap (λ (x : Ran). x .event) end; off = ap (λ (x : Ran). x .run .on) end }
 
   -- whatever the outputs were
-  pub sound-ends : EndsAfter p (runTicks p 0 e) (start p 0 outputs)
+  sound-ends : EndsAfter p (runTicks p 0 e) (start p 0 outputs)
   sound-ends = ends-so arrives
+
+-- So does a program that no test before 043 refuses.
+pub takes-so : (p : List ℕ) (e : ℕ) → End p e → isTangled p e ≡ false → endsInside p e ≡ false → idles p e ≡ false → hasBad p e ≡ false
+    → TakesTicks p (runTicks p 0 e)
+takes-so p e end plain outside moves good outputs = sound-ends p e (sound p e end plain outside moves good) (end .outputs) (end .mark) outputs

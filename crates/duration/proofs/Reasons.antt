@@ -1,34 +1,61 @@
 -- The tests of 040, 041, 044 and 014 say what their sentences say, both ways.
 -- Assumes nothing.
-use Prim.Native.Nat.{ℕ, _+_, _<_}
+use Prim.Native.Nat.{ℕ, zero, suc, _+_, _≤_, _<_}
 use native.Mathlib.Omega.{arith}
 use mathlib.Core.Path.{_≡_, refl, sym, ap, _∙_}
 use mathlib.Core.Logic.{_≢_}
 use mathlib.Core.Bool.{Bool, true, false, _&&_, _||_, not, true≢false, false≢true}
 use mathlib.Core.List.{List}
 use lib.Dec.{ltb, eqb}
-use borrow.Author.Tests.{ltb-true, lt-ltb, eqb-true, eqb-false, eq-eqb, not-true}
+use borrow.Author.Tests.{ltb-true, ltb-false, lt-ltb, eqb-true, eqb-false, eq-eqb, not-true}
 use Rattle.formats.proofs.Checks.{both-true, either-true, or-true, not-so}
 use Rattle.lines.specs.declared.Line.{Line}
 use Rattle.lines.specs.declared.Line.the-variants.{State, For, Next, Bad}
 use Rattle.lines.specs.Line.{isBad}
-use Rattle.lines.specs.Program.{lineAt}
+use Rattle.lines.specs.Program.{lineAt, FirstFrom}
 use Rattle.lines.proofs.Lines.{is-bad}
 use Rattle.lines.proofs.Search.{none-next, next-none}
 use Rattle.duration.specs.Lines.{someBefore}
 use Rattle.duration.specs.Loops.{nextOf, forCounter, counterAt, isInside, isNext, crosses}
 use Rattle.duration.specs.Loops.{startsInOwn, lacksNext, lacksFor, isTangled, endsInside}
 use Rattle.duration.specs.Ticks.{runTicks, isIdle, idlesAt, idles, hasBad}
-use Rattle.duration.specs.Reasons.{Loop, Tangled, crossing, inOwn, noNext, noFor, EndInside, inside, Idle, idle, BadBefore, bad}
+use Rattle.duration.specs.Reasons.{Loop, Tangled, crossing, inOwn, noNext, noFor, EndInside, inside, BadBefore, bad}
+use Rattle.duration.specs.Reasons.{TakesNone, nothing, stateOf0, nextLine, badLine, loopOfNone, idleLoop, Idle, idle}
 use Rattle.duration.proofs.Lines.{some-line, line-some}
 use Rattle.duration.proofs.Pairs.{counter-ranged, counter-of, next-of, next-after, begins, begins-so, pairs, paired, is-inside}
 use Rattle.duration.proofs.Pairs.{inside as inside-says}
+use Rattle.duration.proofs.Ticks.{run-none, run-state, run-loop, run-next, run-bad}
 
-abbrev countOf : Line → ℕ
-countOf (State o t) = 0
-countOf (For c x) = x
-countOf (Next c) = 0
-countOf Bad = 0
+-- ---- lines that take no tick
+
+-- a run of no lines takes nothing
+or-none : (p : List ℕ) (i j : ℕ) → (i < j → runTicks p i j ≡ 0) → runTicks p i j ≡ 0
+or-none p i j h = go (ltb i j) refl
+  where
+    go : (t : Bool) → ltb i j ≡ t → runTicks p i j ≡ 0
+    go true e = h (ltb-true i j e)
+    go false e = run-none p i j (ltb-false i j e)
+
+-- their sum is 0,
+pub none-summed : (p : List ℕ) (i j : ℕ) → TakesNone p i j → j ≤ 200 → runTicks p i j ≡ 0
+none-summed p i j (nothing le) up = run-none p i j le
+none-summed p i j (stateOf0 is rest) up =
+    let none = none-summed p (i + 1) j rest up in or-none p i j λ lt. omega (arith, run-state p i j lt up is)
+none-summed p i j (nextLine is rest) up = let none = none-summed p (i + 1) j rest up in or-none p i j λ lt. run-next p i j lt up is ∙ none
+none-summed p i j (badLine is rest) up = let none = none-summed p (i + 1) j rest up in or-none p i j λ lt. run-bad p i j lt up is ∙ none
+none-summed p i j (loopOfNone {n = n} is first rest) up =
+    let none = none-summed p (n + 1) j rest up in
+    or-none p i j λ lt.
+    let behind : runTicks p (nextOf p i + 1) j ≡ 0 = rw (paired p i (omega arith) is first) none in
+    omega (arith, run-loop p i j lt up is)
+none-summed p i j (idleLoop {x = x} {n = n} is first body rest) up =
+    let inside = none-summed p (i + 1) n body (omega (arith, first .inProgram)) in
+    let none = none-summed p (n + 1) j rest up in
+    or-none p i j λ lt.
+    let next = paired p i (omega arith) is first in
+    let within : runTicks p (i + 1) (nextOf p i) ≡ 0 = rw next inside in
+    let behind : runTicks p (nextOf p i + 1) j ≡ 0 = rw next none in
+    run-loop p i j lt up is ∙ rw (within, behind) (omega arith)
 
 -- ---- a loop, by its For and its Next
 
@@ -159,25 +186,66 @@ module _ (p : List ℕ) (e : ℕ) (end : e < 200) where
   unfolding endsInside
   inside-so (inside {k} {c} {x} {n} q far) = line-some (λ k. isInside p k e) e k (q .before) (within-loop q (q .before) far)
 
-  pub idle-only : isTangled p e ≡ false → idles p e ≡ true → Idle p e
-  unfolding idles idlesAt
-  idle-only plain t = some-line (idlesAt p) e t λ k lt u. go k lt (lineAt p k) refl u
-    where
-      go : (k : ℕ) → k < e → (l : Line) → lineAt p k ≡ l → isIdle l (runTicks p (k + 1) (nextOf p k)) ≡ true → Idle p e
-      go k lt (State o t) at u = absurd (false≢true u)
-      go k lt (For c x) at u =
-          let b = both-true (ltb 0 x) (eqb (runTicks p (k + 1) (nextOf p k)) 0) u in
-          let later = next-after p k (omega arith) c in
-          a-loop k lt plain (let is = next-of p k at in omega arith) λ d y q.
-          let same : x ≡ y = ap countOf (sym at ∙ q .begins) in
-          idle q (let above = ltb-true 0 x (b .0) in omega arith) (eqb-true (runTicks p (k + 1) (nextOf p k)) 0 (b .1))
-      go k lt (Next c) at u = absurd (false≢true u)
-      go k lt Bad at u = absurd (false≢true u)
+  module _ (plain : isTangled p e ≡ false) (outside : endsInside p e ≡ false) where
+    its-next : (k : ℕ) {c x : ℕ} → k < e → lineAt p k ≡ For c x → FirstFrom p c (k + 1) (nextOf p k)
+    its-next k lt is = pairs p k (omega arith) is λ z. true≢false (sym (tangled-so (no-next-at k lt z)) ∙ plain)
+
+    -- a loop ends before line e
+    ends-before : (k : ℕ) → k < e → nextOf p k ≤ e
+    unfolding endsInside
+    ends-before k lt = go (ltb e (nextOf p k)) refl
+      where
+        go : (t : Bool) → ltb e (nextOf p k) ≡ t → nextOf p k ≤ e
+        go true t =
+            let far = ltb-true e (nextOf p k) t in
+            absurd (true≢false (sym (line-some (λ k. isInside p k e) e k lt (is-inside p k e lt far)) ∙ outside))
+        go false t = ltb-false e (nextOf p k) t
+
+    -- and lines before line e whose sum is 0 take none; s steps are enough
+    pub summed-none : (s i j : ℕ) → 200 ≤ i + s → j ≤ e → runTicks p i j ≡ 0 → TakesNone p i j
+    summed-none zero i j enough up z = let le : j ≤ i = omega arith in nothing le
+    summed-none (suc s) i j enough up z = go (ltb i j) refl (lineAt p i) refl (λ k m. summed-none s k m)
+      where
+        go : (t : Bool) → ltb i j ≡ t → (l : Line) → lineAt p i ≡ l
+            → ((k m : ℕ) → 200 ≤ k + s → m ≤ e → runTicks p k m ≡ 0 → TakesNone p k m) → TakesNone p i j
+        go false t l is more = nothing (ltb-false i j t)
+        go true t (State o x) is more =
+            let sum = run-state p i j (ltb-true i j t) (omega arith) is in
+            let none : x ≡ 0 = omega arith in
+            stateOf0 (is ∙ ap (State o) none) (more (i + 1) j (omega arith) up (omega arith))
+        go true t (For c zero) is more =
+            let first = its-next i (omega (arith, ltb-true i j t)) is in
+            let sum = run-loop p i j (ltb-true i j t) (omega arith) is in
+            loopOfNone is first (more (nextOf p i + 1) j (omega (arith, first .notBefore)) up (omega arith))
+        go true t (For c (suc x)) is more =
+            let lt : i < e = omega (arith, ltb-true i j t) in
+            let first = its-next i lt is in
+            let sum = run-loop p i j (ltb-true i j t) (omega arith) is in
+            idleLoop is first (more (i + 1) (nextOf p i) (omega arith) (ends-before i lt) (omega arith))
+            (more (nextOf p i + 1) j (omega (arith, first .notBefore)) up (omega arith))
+        go true t (Next c) is more =
+            nextLine is (more (i + 1) j (omega arith) up (sym (run-next p i j (ltb-true i j t) (omega arith) is) ∙ z))
+        go true t Bad is more = badLine is (more (i + 1) j (omega arith) up (sym (run-bad p i j (ltb-true i j t) (omega arith) is) ∙ z))
+
+    pub idle-only : idles p e ≡ true → Idle p e
+    unfolding idles idlesAt
+    idle-only t = some-line (idlesAt p) e t λ k lt u. go k lt (lineAt p k) refl u
+      where
+        go : (k : ℕ) → k < e → (l : Line) → lineAt p k ≡ l → isIdle l (runTicks p (k + 1) (nextOf p k)) ≡ true → Idle p e
+        go k lt (State o t) at u = absurd (false≢true u)
+        go k lt (For c x) at u =
+            let b = both-true (ltb 0 x) (eqb (runTicks p (k + 1) (nextOf p k)) 0) u in
+            let none = eqb-true (runTicks p (k + 1) (nextOf p k)) 0 (b .1) in
+            idle (record { before = lt; begins = at; next = its-next k lt at }) (ltb-true 0 x (b .0))
+            (summed-none 200 (k + 1) (nextOf p k) (omega arith) (ends-before k lt) none)
+        go k lt (Next c) at u = absurd (false≢true u)
+        go k lt Bad at u = absurd (false≢true u)
 
   pub idle-so : Idle p e → idles p e ≡ true
   unfolding idles idlesAt
   idle-so (idle {k} {c} {x} {n} q above none) =
-      let z : runTicks p (k + 1) (nextOf p k) ≡ 0 = ap (runTicks p (k + 1)) (next-is q) ∙ none in
+      let sum = none-summed p (k + 1) n none (omega (arith, q .next .inProgram)) in
+      let z : runTicks p (k + 1) (nextOf p k) ≡ 0 = ap (runTicks p (k + 1)) (next-is q) ∙ sum in
       line-some (idlesAt p) e k (q .before) (rw (q .begins, lt-ltb 0 x above, z))
 
   pub bad-only : hasBad p e ≡ true → BadBefore p e

@@ -19,7 +19,8 @@ use Rattle.duration.specs.Reasons.{NoEnd, End, Reason, e030, e042, e040,
 use Rattle.duration.proofs.FirstEnd.{none-before, end-is}
 use Rattle.duration.proofs.Reasons.{tangled-only, tangled-so, inside-only, inside-so, idle-only, idle-so, bad-only, bad-so}
 use Rattle.duration.specs.ByTheRule.{TakesTicks}
-use Rattle.duration.proofs.Taking.{takes-so, takes, one-number}
+use Rattle.duration.proofs.Taking.{takes, one-number}
+use Rattle.duration.proofs.Number.{takes-so}
 
 -- the refusals and their places
 place-number : (i : ℕ) → i < 7 → place (number i) ≡ i
@@ -61,11 +62,11 @@ module _ (p : List ℕ) where
   reason-at (suc (suc (suc zero))) lt all fails =
       let end = the-end all in e041 refl end (inside-only p e (end .inProgram) (not-true _ (all 2 (omega arith))) (not-false _ fails))
   reason-at (suc (suc (suc (suc zero)))) lt all fails =
-      let end = the-end all in e044 refl end (idle-only p e (end .inProgram) (not-true _ (all 2 (omega arith))) (not-false _ fails))
+      let end = the-end all in e044 refl end (idle-only p e (end .inProgram) (not-true _ (all 2 (omega arith))) (not-true _ (all 3 (omega arith))) (not-false _ fails))
   reason-at (suc (suc (suc (suc (suc zero))))) lt all fails = let end = the-end all in e014 refl end (bad-only p e (end .inProgram) (not-false _ fails))
   reason-at (suc (suc (suc (suc (suc (suc i)))))) lt all fails =
       e043 refl (leb-false (runTicks p 0 e) mostTicks fails)
-      (takes-so p (the-end all) (not-true _ (all 2 (omega arith))) (not-true _ (all 3 (omega arith))) (not-true _ (all 4 (omega arith)))
+      (takes-so p e (the-end all) (not-true _ (all 2 (omega arith))) (not-true _ (all 3 (omega arith))) (not-true _ (all 4 (omega arith)))
       (not-true _ (all 5 (omega arith))))
 
   -- A program is refused only if the refusal's own sentence holds of it.

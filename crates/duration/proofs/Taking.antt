@@ -12,23 +12,17 @@ use Rattle.formats.proofs.Checks.{not-passed, passed-same}
 use Rattle.duration.proofs.Order.{Told, refuses, passes, told}
 use Rattle.running.specs.declared.Ran.{Ran}
 use Rattle.running.specs.Running.{tick, ticks}
-use Rattle.duration.specs.Loops.{endLine, isTangled, endsInside}
-use Rattle.duration.specs.Ticks.{runTicks, idles, hasBad}
+use Rattle.duration.specs.Loops.{endLine}
+use Rattle.duration.specs.Ticks.{runTicks}
 use Rattle.duration.specs.Report.{report}
 use Rattle.duration.specs.ByTheRule.{after, EndsAfter, TakesTicks}
-use Rattle.duration.specs.Reasons.{End}
 use Rattle.duration.proofs.Reaching.{after-add}
 use Rattle.duration.proofs.FirstEnd.{end-is}
-use Rattle.duration.proofs.Judging.{sound}
-use Rattle.duration.proofs.Number.{sound-ends}
+use Rattle.duration.proofs.Number.{takes-so}
 
 module _ (p : List ℕ) where
   abbrev e : ℕ
   e = endLine p
-
-  -- What holds of a program that no check before 043 refuses: it takes as many ticks as its lines do.
-  pub takes-so : End p e → isTangled p e ≡ false → endsInside p e ≡ false → idles p e ≡ false → hasBad p e ≡ false → TakesTicks p (runTicks p 0 e)
-  takes-so end plain outside moves good outputs = sound-ends p e (sound p e end plain outside moves good) (end .outputs) (end .mark) outputs
 
   -- A program that is not refused takes the ticks that are told: from a start at line 000 it runs until exactly that tick, and there it ends
   -- with event 011.
@@ -41,7 +35,7 @@ module _ (p : List ℕ) where
           let number : n ≡ runTicks p 0 e = passed-same (sym is ∙ so) in
           let end = end-is p (ltb-true e 200 (all 1 (omega arith))) in
           rw number
-          (takes-so end (not-true _ (all 2 (omega arith))) (not-true _ (all 3 (omega arith))) (not-true _ (all 4 (omega arith)))
+          (takes-so p e end (not-true _ (all 2 (omega arith))) (not-true _ (all 3 (omega arith))) (not-true _ (all 4 (omega arith)))
           (not-true _ (all 5 (omega arith))))
 
 -- What is left after so many ticks is what demand 3's rule leaves.

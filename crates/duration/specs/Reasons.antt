@@ -3,7 +3,7 @@
 -- line pairs with the first later Next of its counter anywhere: 040 two such loops cross, one starts inside another of its counter, a For has no
 -- Next, or a Next before that line has no For; 041 that line is inside a loop; 044 a loop with count above 0 whose body takes 0 ticks; 014 a
 -- Bad line before it; 043 more than 9,999,999,999 ticks".
-use Prim.Native.Nat.{ℕ, _+_, _<_}
+use Prim.Native.Nat.{ℕ, _+_, _≤_, _<_}
 use mathlib.Core.Path.{_≡_}
 use mathlib.Core.Logic.{_≢_}
 use mathlib.Core.List.{List}
@@ -12,7 +12,6 @@ use lib.Dec.{eqb}
 use Rattle.formats.specs.Checks.{if_then_else_}
 use Rattle.lines.specs.declared.Line.the-variants.{State, For, Next, Bad}
 use Rattle.lines.specs.Program.{lineAt, FirstFrom, NoneFrom}
-use Rattle.duration.specs.Ticks.{runTicks}
 use Rattle.duration.specs.Report.{mostTicks}
 use Rattle.duration.specs.ByTheRule.{TakesTicks}
 
@@ -44,9 +43,19 @@ pub data Tangled (p : List ℕ) (e : ℕ) : Type 0 where
 pub data EndInside (p : List ℕ) (e : ℕ) : Type 0 where
   inside : {k c x n : ℕ} → Loop p e k c x n → e < n → EndInside p e
 
--- "a loop with count above 0 whose body takes 0 ticks"; what lines take is held by `Ticks.run-state`, `run-loop`, `run-next` and `run-bad`
+-- The lines from i to before j take no tick: there are none, or the first takes none and those behind it take none. A State takes its time; a Next
+-- and a Bad line take none; a loop, to its Next on line n, takes none if its count is 0 or its body takes none.
+pub data TakesNone (p : List ℕ) : ℕ → ℕ → Type 0 where
+  nothing : {i j : ℕ} → j ≤ i → TakesNone p i j
+  stateOf0 : {i j o : ℕ} → lineAt p i ≡ State o 0 → TakesNone p (i + 1) j → TakesNone p i j
+  nextLine : {i j c : ℕ} → lineAt p i ≡ Next c → TakesNone p (i + 1) j → TakesNone p i j
+  badLine : {i j : ℕ} → lineAt p i ≡ Bad → TakesNone p (i + 1) j → TakesNone p i j
+  loopOfNone : {i j c n : ℕ} → lineAt p i ≡ For c 0 → FirstFrom p c (i + 1) n → TakesNone p (n + 1) j → TakesNone p i j
+  idleLoop : {i j c x n : ℕ} → lineAt p i ≡ For c x → FirstFrom p c (i + 1) n → TakesNone p (i + 1) n → TakesNone p (n + 1) j → TakesNone p i j
+
+-- "a loop with count above 0 whose body takes 0 ticks"
 pub data Idle (p : List ℕ) (e : ℕ) : Type 0 where
-  idle : {k c x n : ℕ} → Loop p e k c x n → 0 < x → runTicks p (k + 1) n ≡ 0 → Idle p e
+  idle : {k c x n : ℕ} → Loop p e k c x n → 0 < x → TakesNone p (k + 1) n → Idle p e
 
 -- "a Bad line before it"
 pub data BadBefore (p : List ℕ) (e : ℕ) : Type 0 where

@@ -1,4 +1,5 @@
--- How the code sums: ticks up to one more than are told, and whether an idle loop or a Bad line was met.
+-- How the code sums: ticks up to one more than are told, and whether an idle loop or a Bad line was met. Nobody has to believe it: `report` is
+-- proved by it to tell what `Report` says.
 use Prim.Native.Nat.{ℕ, _+_, _*_, _≤_, _<_}
 use mathlib.Core.Bool.{Bool, false, true, not, _&&_, _||_}
 use mathlib.Core.List.{List}
