@@ -62,7 +62,8 @@ module _ (p : List ℕ) where
   reason-at (suc (suc (suc zero))) lt all fails =
       let end = the-end all in e041 refl end (inside-only p e (end .inProgram) (not-true _ (all 2 (omega arith))) (not-false _ fails))
   reason-at (suc (suc (suc (suc zero)))) lt all fails =
-      let end = the-end all in e044 refl end (idle-only p e (end .inProgram) (not-true _ (all 2 (omega arith))) (not-true _ (all 3 (omega arith))) (not-false _ fails))
+      let end = the-end all in
+      e044 refl end (idle-only p e (end .inProgram) (not-true _ (all 2 (omega arith))) (not-true _ (all 3 (omega arith))) (not-false _ fails))
   reason-at (suc (suc (suc (suc (suc zero))))) lt all fails = let end = the-end all in e014 refl end (bad-only p e (end .inProgram) (not-false _ fails))
   reason-at (suc (suc (suc (suc (suc (suc i)))))) lt all fails =
       e043 refl (leb-false (runTicks p 0 e) mostTicks fails)
