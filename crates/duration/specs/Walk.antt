@@ -1,3 +1,4 @@
+-- Nobody has to believe this: it says how the code goes, and no theorem speaks of it.
 -- How the code finds a tangle: line by line, with the Next of the last For of each counter. `Faults.tangled-is` proves that it is the rule's.
 use Prim.Native.Nat.{ℕ, zero, suc, _-_}
 use mathlib.Core.Path.{_≡_}
