@@ -1,7 +1,7 @@
 #!/usr/bin/env python3
 """Reckons which definitions a reader has to believe, from the statements of the theorems, and writes docs/BELIEVED.md.
 
-Usage: python3 tools/believed.py [--check | --print | --why NAME]
+Usage: python3 tools/believed.py [--check | --print | --laws | --why NAME]
 
 The theorems are what is public in the modules that the head of docs/PROMISES.md lists, but for definitions. Of each its statement counts,
 with the parameters of the modules that it stands in. So do the contracts of what is called from outside: of the public functions of
@@ -13,10 +13,10 @@ definition only its signature is followed.
 A line counts if it is neither blank nor a comment nor a `use` line; the head of a module with parameters counts once. A definition that
 several lists lead to counts in the first. `Lib.antt` of a folder only lists its modules, and is not looked at.
 
---print shows the page and writes nothing. --why says by which way a definition, crate/Module.name, is reached. --check writes nothing, and ends
-with status 1 if the page is not what would be written, if something that has to be believed stands outside specs/ and src/, or if nothing in a
-module under specs/ has to be believed and its first line does not say so, by the words "Nobody has to believe this", or if it says so and
-something has to be."""
+--print shows the page and writes nothing; --laws shows it with what the laws of lower layers would add that docs/PROMISES.md names. --why
+says by which way a definition, crate/Module.name, is reached. --check writes nothing, and ends with status 1 if the page is not what would be
+written, if something that has to be believed stands outside specs/ and src/, or if nothing in a module under specs/ has to be believed and
+its first line does not say so, by the words "Nobody has to believe this", or if it says so and something has to be."""
 import collections
 import glob
 import os
@@ -24,11 +24,11 @@ import re
 import sys
 
 from declarations import code, declarations, without_texts
-from promises import theorem_modules
+from promises import QUOTED, module_files, theorem_modules
 
 ROOT = os.path.dirname(os.path.dirname(os.path.abspath(__file__)))
 PAGE = 'docs/BELIEVED.md'
-BOX = ('crates/controller/specs/Calls.antt', 'call')
+STOPS = [('crates/controller/specs/Calls.antt', 'call')]  # what the code is proved against and the theorems speak of
 WORDS = 'Nobody has to believe this'
 COMPUTED = 'demands/Worked'
 CALLED = ('crates/calls/src/lib.rt', 'crates/nizhalepu/src/lib.rt', 'crates/durations/src/main.rt')
@@ -106,9 +106,9 @@ def module_path(module):
 class File:
     """the declarations of a file, and what the names in it mean"""
 
-    def __init__(self, path, sources):
-        text = read(path)
-        self.path, self.declared = path, collections.OrderedDict()
+    def __init__(self, path, reader):
+        text, sources = read(path), reader.sources
+        self.path, self.reader, self.declared = path, reader, collections.OrderedDict()
         for one in declarations(text) if path.endswith('.antt') else []:
             self.declared.setdefault(one.name, one)
         self.inside = {part: one.name for one in self.declared.values() if one.kind == 'data' for part in constructors(one)}
@@ -159,12 +159,14 @@ def binders(text):
 
 
 class Reader:
-    def __init__(self):
+    def __init__(self, with_laws=False):
         self.sources, self.files = Sources(), {}
+        sentence = 'Those of lower layers that docs/PROMISES.md names; what they add.'
+        self.more = [('Laws', sentence, stated_in(laws(self)))] if with_laws else []
 
     def file(self, path):
         if path not in self.files:
-            self.files[path] = File(path, self.sources)
+            self.files[path] = File(path, self)
         return self.files[path]
 
     def meant(self, file, word):
@@ -211,7 +213,7 @@ class Reader:
         file = self.file(what.path)
         one = file.declared[what.name]
         found_ = self.stated(file, one)
-        if what == BOX:
+        if what in STOPS:
             return found_
         outer = {name for head in one.modules for name in binders(' '.join(text for _, text in head))}
         for clause in one.clauses:
@@ -273,11 +275,20 @@ def theorems(reader, modules):
                 yield file, one
 
 
-def stated_in(reader, modules):
-    """(who, what is stated: lines, the names used) of the theorems"""
-    for file, one in theorems(reader, modules):
+def laws(reader):
+    """what docs/PROMISES.md names beside the theorems"""
+    for crate, module, name in sorted(set(re.findall(r'^(\w+)/(\w+)\.(\S+)$', '\n'.join(QUOTED), re.M))):
+        for path in module_files(crate, module) if (crate, module) not in theorem_modules() else []:
+            one = reader.file(path).declared.get(name)
+            if one and not one.kind:
+                yield reader.file(path), one
+
+
+def stated_in(theorems_):
+    """(who, the number of lines, heads of modules, the names used) of what is stated"""
+    for file, one in theorems_:
         heads = {(file.path, head[0][0]): len(head) for head in one.modules}
-        yield Name(file.path, one.name), len(one.statement), heads, reader.stated(file, one)
+        yield Name(file.path, one.name), len(one.statement), heads, file.reader.stated(file, one)
 
 
 def contracts(reader):
@@ -309,11 +320,11 @@ def groups(reader):
     seen = [pair for pair in theorem_modules() if pair[0] == 'demands' and '/'.join(pair) != COMPUTED]
     computed = [pair for pair in theorem_modules() if '/'.join(pair) == COMPUTED]
     other = [pair for pair in theorem_modules() if pair[0] != 'demands']
-    return [('What can be seen of the box', 'The theorems of `demands`, but for the computed points.', stated_in(reader, seen)),
-            ('Other theorems', 'Those of the report, of the record for C and of one call; what they add.', stated_in(reader, other)),
+    return [('What can be seen of the box', 'The theorems of `demands`, but for the computed points.', stated_in(theorems(reader, seen))),
+            ('Other theorems', 'Those of the report, of the record for C and of one call; what they add.', stated_in(theorems(reader, other))),
             ('Contracts', 'Those of what is called from outside, the library and the program `durations`; what they add.', contracts(reader)),
             ('Computed points', f'What `{COMPUTED}` adds: the points and tables that are computed, and the language that they are written in.',
-             stated_in(reader, computed))]
+             stated_in(theorems(reader, computed)))] + reader.more
 
 
 def shown(path):
@@ -326,7 +337,7 @@ def counted(reader, names):
     """crate/Module: (lines, the names in it), in the order of the layers"""
     lines, listed, heads = collections.Counter(), collections.defaultdict(list), {}
     for what in names:
-        if what != BOX:
+        if what not in STOPS:
             lines[what.path] += reader.lines(what)
             listed[what.path].append(what.name)
             heads.update(reader.heads(what))
@@ -408,15 +419,15 @@ def why(reader, asked):
 
 
 def main():
-    reader = Reader()
     asked = sys.argv[1:]
+    reader = Reader('--laws' in asked)
     if '--help' in asked:
         print(__doc__)
         return 0
     if asked[:1] == ['--why']:
         return why(reader, asked[1])
     text, outside = page(reader)
-    if asked == ['--print']:
+    if asked in (['--print'], ['--laws']):
         print(text, end='')
         return 0
     if asked != ['--check']:
