@@ -1,4 +1,6 @@
-"""The edits that tools/wrong_definitions.py tries: plain ones, of a line or two. The others stand in tools/pointwise_edits.py."""
+"""The edits that tools/wrong_definitions.py tries: plain ones, of a line or two. The others stand in tools/pointwise_edits.py.
+
+An edit is tried in a copy, where `bringing` says which `use` lines its new words need."""
 import collections
 import glob
 import os
@@ -199,5 +201,11 @@ def unique(edits):
 
 
 def shown(edit):
+    """the place, and the lines that differ"""
+    old, new = list(edit.old), list(edit.new)
+    while len(old) == len(new) > 1 and old[0] == new[0]:
+        old, new = old[1:], new[1:]
+    while len(old) == len(new) > 1 and old[-1] == new[-1]:
+        old, new = old[:-1], new[:-1]
     place = f'{edit.path}:{edit.line + 1} ({edit.sort}: {edit.kind})'
-    return '\n'.join([place] + [f'  - {line.strip()}' for line in edit.old] + [f'  + {line.strip()}' for line in edit.new])
+    return '\n'.join([place] + [f'  - {line.strip()}' for line in old] + [f'  + {line.strip()}' for line in new])

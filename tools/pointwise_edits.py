@@ -101,7 +101,8 @@ LETTERS = [98, 77, 67, 82, 87, 73, 68, 48, 57, 65, 70, 209]
 BY_NAME = {'k j i address next nextread nextwrite parameter': [0, 77, 199, 200, 201, 203, 204, 205, 206, 209, 210, 211, 212, 213, 214, 216],
            'x char': LETTERS, 'c counter': [1, 2, 3, 4], 'e refusal': [2, 3, 4, 5, 20, 23, 24],
            'line l': [0, 12, 77, 199], 'tick ticks time count wait': [1, 2, 77, 255, 256], 'event': [10, 11, 12, 14], 'kind': [1, 2],
-           'cause': [12, 77, 254, 255], 'R places len': [2, 3, 10], 'stop pause auto': [20, 21, 22], 'b button': [1, 2], 'special code': [1, 3, 6, 8]}
+           'cause': [12, 77, 254, 255], 'R places len': [2, 3, 10], 'stop pause auto': [20, 21, 22], 'b button': [1, 2],
+           'from': [0, 2, 4, 6], 'n': [1, 2, 4, 7], 'base': [10, 16, 256], 'word outputs before': [1, 2, 255], 'special code': [1, 3, 6, 8]}
 OTHER = [1, 2, 7, 10, 11, 12, 14, 77, 98, 209, 255]
 LENGTHS = [2, 3, 5, 6, 8, 10, 15, 16, 32]
 AREAS = re.compile(r'(?i).*area|program|saved|log|bs|bytes|rs|p')
@@ -203,6 +204,21 @@ def variables_of(known, one, clause):
     return own + list(bound_by_modules(one)), result if len(patterns) == len(types) else None
 
 
+def numbers_used(known, old, variables):
+    """(line, start, end, text) of each place in a clause that uses a number: an argument, or a field of one"""
+    _, at = depth_zero(old[0], ('=',))
+    for name, type_ in variables:
+        if any(f'λ {name}' in line or f'let {name} ' in line for line in old):
+            continue
+        for k, line in enumerate(old):
+            for found in re.finditer(rf"(?<![\w.·′\"]){re.escape(name)}((?: \.\w+)*)(?![\w′″·\"]|\s*[=:←↦]|\.\s)", line):
+                reached = type_
+                for field in found.group(1).split():
+                    reached = dict(known.fields.get(reached, [])).get(field[1:], '')
+                if reached == 'ℕ' and (k or found.start() > at) and not line.lstrip().startswith('--'):
+                    yield k, found.start(), found.end(), found.group()
+
+
 def pointwise(known, crate, path):
     """the edits at one point of a file's definitions"""
     source = open(path).read()
@@ -236,6 +252,13 @@ def at_points(known, crate, short, lines, one, clause):
         yield from edit('result that is', wrapped(old, 'let it : ℕ = (', f') in if eqb it {n} then {n + 1} else it'))
     if result == 'List ℕ':
         yield from edit('result so long', wrapped(old, 'let it : List ℕ = (', f') in if eqb (length it) {chance.choice(LENGTHS)} then {other} else it'))
+    for k, start, end, used in numbers_used(known, old, variables):
+        bounds = {name: int(n, 0) for name, n in re.findall(r'\b(?:leb|ltb|eqb) \(?(\w+(?: \.\w+)*)\)? (0x[0-9A-F]+|\d+)', old[k])}
+        n = bounds[used] if used in bounds else number_for(chance, used.split('.')[-1], old[k], crate)
+        own, others = f'eqb ({used}) {n}', [test for name, test in found if name not in bounds and name != used and f'({used})' not in test]
+        for test in [own] + ([f'{own} && {chance.choice(others)}', chance.choice(others)] if others else []):
+            new = n + 1 if own in test else f'{used} + 1'
+            yield from edit('one use', old[:k] + [f'{old[k][:start]}(if {test} then {new} else {used}){old[k][end:]}'] + old[k + 1:])
     for name, test in found:
         type_ = dict(variables)[name]
         if type_ == 'ℕ':

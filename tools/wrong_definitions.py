@@ -23,10 +23,10 @@ modules whose first line says that nobody has to believe them.
 
 Each seed chooses --tries edits (default 40, of seed 1) of the --sorts plain, pointwise and premise (default all). --plan, with one seed, goes
 by the plan instead: so many edits of each of these sorts that are not ill-typed (140, 120 and 50, if it does not say), from every crate and
-definition in turn, always the same ones. --at
-keeps those whose place, crates/CRATE/specs/FILE:LINE, has TEXT in it; --list says which there are and tries none; --print shows every edit
-tried. --jobs places work side by side, each in a copy (default 1). --copy keeps the stripped copy in a folder, so that a later run proves only
-what has changed. A line for each edit is written as soon as it is tried, with the seconds that it took.
+definition in turn, always the same ones. --at keeps those whose place, crates/CRATE/specs/FILE:LINE, has TEXT in it; --list says which there
+are and tries none; --print shows every edit tried. --jobs places work side by side, each in a copy (default 1). --copy keeps the stripped copy
+in a folder, so that a later run proves only what has changed. A line for each edit is written as soon as it is tried, with the seconds that it
+took; of a survivor the lines that differ.
 The last lines: for each sort, and then for all, edits to choose from, tried, refused, ill-typed, survive. Status 1 if any survives."""
 import argparse
 import collections
