@@ -1,25 +1,37 @@
 #!/usr/bin/env python3
 """Tries wrong definitions: each edit of what a reader must believe has to be refused by what is proved of the definitions alone.
 
-Usage: python3 tools/wrong_definitions.py [--tries N] [--seeds S,S,...] [--jobs N] [--at TEXT] [--print] [--list] [CRATE...]
+Usage: python3 tools/wrong_definitions.py [--plan[=N,N,N]] [--tries N] [--seeds S,S,...] [--sorts S,S,...] [--jobs N] [--at TEXT] [--copy FOLDER]
+                                          [--print] [--list] [CRATE...]
 
 Strips a copy of the repository to types, definitions and laws, with no function and no proof of one, and proves it once. Then it edits
-one definition at a time, in the specs of the crates named (all that define something of the box, if none is): a number is one more or
-less, a test another, two branches, clauses, fields or checks are exchanged, a check is dropped, one thing is taken for its neighbour of
-the same type. The edited crate is proved and then each that stands on it, up to the first that is not proved.
+one definition at a time, in the specs of the crates named (all that define something of the box, if none is). The edited crate is proved
+and then each that stands on it, up to the first that is not proved: first those that `demands` stands on, then `demands`, its computed points
+and tables last, since they take longest, and then the rest.
+
+There are three sorts of edits. A plain one (tools/definition_edits.py): a number is one more or less, a test another, two branches, clauses,
+fields or checks are exchanged, a check is dropped, one thing is taken for its neighbour of the same type. One at a point
+(tools/pointwise_edits.py): where an argument is a certain number, a list has a certain length or begins so, or a field is so, the result is
+another, or the argument is taken for its neighbour; else all is as before. And one of a premise, which stands there too: `demands` says of which
+calls its theorems speak, and the edit asks more of them, or less. An edit of a premise is refused if `demands` is no longer proved.
 
 An edit that nothing refuses survives, and is always shown: a rule that only reading holds, or the same box seen from outside. One after
-which the definitions themselves do not check says nothing about the laws, and counts as ill-typed. Comments, signatures and what is
-stated of a state are not edited: an invariant is proved, not believed. Nor are the specs of `demands`, which state the theorems.
+which the definitions themselves do not check says nothing about the laws, and counts as ill-typed. That an edit is refused says that a
+proof fails, in the module that is named; it does not say that no other proof would do. Comments, signatures and what is stated of a state
+are not edited: an invariant is proved, not believed. Nor are the specs of `demands` beside its premises, which state the theorems, and
+modules whose first line says that nobody has to believe them.
 
-Each seed chooses --tries edits (default 40, of seed 1); --at keeps those whose place, crates/CRATE/specs/FILE:LINE, has TEXT in it; --list
-says which there are and tries none; --print shows every edit tried. --jobs places work side by side, each in a copy (default 1).
-The last line: edits to choose from, tried, refused, ill-typed, survive. Status 1 if any survives."""
+Each seed chooses --tries edits (default 40, of seed 1) of the --sorts plain, pointwise and premise (default all). --plan, with one seed, goes
+by the plan instead: so many edits of each of these sorts that are not ill-typed (140, 120 and 50, if it does not say), from every crate and
+definition in turn, always the same ones. --at keeps those whose place, crates/CRATE/specs/FILE:LINE, has TEXT in it; --list says which there
+are and tries none; --print shows every edit tried. --jobs places work side by side, each in a copy (default 1). --copy keeps the stripped copy
+in a folder, so that a later run proves only what has changed. A line for each edit is written as soon as it is tried, with the seconds that it
+took; of a survivor the lines that differ.
+The last lines: for each sort, and then for all, edits to choose from, tried, refused, ill-typed, survive. Status 1 if any survives."""
 import argparse
 import collections
 import glob
 import os
-import queue
 import random
 import re
 import shutil
@@ -27,15 +39,18 @@ import subprocess
 import sys
 import tempfile
 import threading
+import time
 
+from believed import WORDS as UNBELIEVED
 from crates import ROOT, listed
+from definition_edits import bringing, declared, edits_of, shown, unique
+from pointwise_edits import Known, pointwise, premise_edits
 
 STATEMENTS = 'demands'
+SLOW = ('Worked',)  # modules of it that take long to prove, on which no other stands: in the copy they are a crate of their own, `computed`
 OUTSIDE = {'io', 'os', 'libc'}  # what stands on these is a program, or part of one
-
-# `old` and `new` are lists of lines, from the one with number `line` on; the first of a file is 0
-Edit = collections.namedtuple('Edit', 'crate path line kind old new')
-
+SORTS = ('plain', 'pointwise', 'premise')
+PLAN = '140,120,50'  # edits of each sort
 
 # ---- the stripped copy
 
@@ -61,10 +76,11 @@ def defining(crates):
 
 
 def strip(crates, names, place):
-    os.makedirs(place)
+    shutil.rmtree(f'{place}/crates', ignore_errors=True)
+    os.makedirs(place, exist_ok=True)
     with open(f'{place}/crates.txt', 'w') as out:
         out.writelines(f'{c}: {" ".join(crates[c])}\n' for c in names)
-    for crate in names:
+    for crate in names[:-1]:
         own, copy = f'{ROOT}/crates/{crate}', f'{place}/crates/{crate}'
         shutil.copytree(f'{own}/specs', f'{copy}/specs')
         for path in glob.glob(f'{own}/src/**/*.rt', recursive=True):
@@ -77,192 +93,26 @@ def strip(crates, names, place):
             os.makedirs(f'{copy}/proofs')
         for path in laws:
             shutil.copy(path, f'{copy}/proofs')
+    set_apart(f'{place}/crates/{STATEMENTS}', f'{place}/crates/computed')
 
 
-# ---- edits of one line
-
-NUMBER = re.compile(r"(?<![\w.′\"])(0x[0-9A-F]+|\d+)(?![\w\"])")
-WORDS = [(r'\bltb\b', 'leb'), (r'\bleb\b', 'ltb'), (r'\beqb\b', 'leb'), (r' && ', ' || '), (r' \|\| ', ' && '), (r'\btrue\b', 'false'),
-         (r'\bfalse\b', 'true'), (r' \+ 1\b', ''), (r' - 1\b', ''), (r' \+ ', ' - '), (r' - ', ' + '), (r'\btake\b', 'drop'),
-         (r'\bdrop\b', 'take'), (r'\bnot \(', '('), (r'\bnot (?=\w)', ''), (r' \* ', ' + '), (r' / ', ' % '), (r' % ', ' / ')]
-
-# where the words stand that an edit may bring in
-HOMES = {word: module for module, words in [('lib.Dec', 'ltb leb'), ('lib.ListN', 'take drop'), ('mathlib.Core.Bool', 'true false && ||'),
-                                            ('Prim.Native.Nat', '+ - / %')] for word in words.split()}
-
-
-def bringing(text, new):
-    """the `use` lines that the new lines need and the file does not have"""
-    known = {name for listed_names in re.findall(r'^use \S+\.\{([^}]*)\}', text, re.M) for name in listed_names.split(', ')}
-    needed = {word: word if word.isalpha() else f'_{word}_' for line in new for word in re.split(r'[\s()]+', line) if word in HOMES}
-    return [f'use {HOMES[word]}.{{{name}}}' for word, name in sorted(needed.items()) if name not in known]
-
-
-def replaced(text, match, new):
-    return text[:match.start()] + new + text[match.end():]
-
-
-def numbers(text):
-    for match in NUMBER.finditer(text):
-        value = int(match.group(), 0)
-        for other in (value + 1, value - 1):
-            if other >= 0:
-                yield 'number', replaced(text, match, f'0x{other:02X}' if 'x' in match.group() else str(other))
-
-
-def words(text):
-    for pattern, new in WORDS:
-        for match in re.finditer(pattern, text):
-            yield 'word', replaced(text, match, new)
-
-
-def letters(text):
-    """the last character of a text is the next one"""
-    for match in re.finditer(r'"(\w*)(\w)"', text):
-        yield 'letter', replaced(text, match, f'"{match.group(1)}{chr(ord(match.group(2)) + 1)}"')
-
-
-def branches(text):
-    """`if a then b else c`, on one line, with b and c exchanged"""
-    found = re.match(r'(.*\bif (?:(?!\bif\b).)* then )((?:(?!\bif\b).)*)( else )((?:(?!\bif\b).)*)$', text)
-    if found and found.group(2).count('(') == found.group(2).count(')') and found.group(4).count('(') == found.group(4).count(')'):
-        yield 'branches', found.group(1) + found.group(4) + found.group(3) + found.group(2)
-
-
-def neighbours(text, like, scope):
-    """a name for another of the same type that the file knows; a field is known by its record"""
-    for match in re.finditer(r"(?<![\w·])\.?[A-Za-z]\w*(?![\w.])", text):
-        for other in like.get(match.group(), []) if match.group()[0] == '.' or match.group() in scope else []:
-            if other in scope or other.startswith('.'):
-                yield 'neighbour', replaced(text, match, other)
-
-
-def fields(text, types):
-    """`record { a = x; b = y }` with the values of two fields of one type exchanged"""
-    for found in re.finditer(r'record \{ ([^{}]*) \}', text):
-        parts = [part.split(' = ', 1) for part in found.group(1).split('; ')]
-        if not all(len(part) == 2 for part in parts):
-            continue
-        for i, (a, x) in enumerate(parts):
-            for j in range(i + 1, len(parts)):
-                b, y = parts[j]
-                if types.get(a) == types.get(b) and x != y:
-                    new = [(a, y) if k == i else (b, x) if k == j else tuple(part) for k, part in enumerate(parts)]
-                    yield 'fields', text[:found.start(1)] + '; '.join(' = '.join(part) for part in new) + text[found.end(1):]
-                    break
-
-
-# ---- edits of two lines
-
-CHOICE = re.compile(r'( *(?:else )?if .* then )(.*)$')
-LAST = re.compile(r'( *else )((?!if).*)$')
-CLAUSE = re.compile(r'((\w+) .*? = )(.*)$')
-
-
-def exchanged(one, two):
-    """two lines of a choice or two clauses, with what they give exchanged; None where that says nothing"""
-    a, b = CHOICE.match(one), CHOICE.match(two) or LAST.match(two)
-    if a and b:
-        return [a.group(1) + b.group(2), b.group(1) + a.group(2)]
-    a, b = CLAUSE.match(one), CLAUSE.match(two)
-    if a and b and a.group(2) == b.group(2) and fits(a.group(3), a.group(1), b.group(1)) and fits(b.group(3), b.group(1), a.group(1)):
-        return [a.group(1) + b.group(3), b.group(1) + a.group(3)]
-    return None
-
-
-def fits(text, own, other):
-    """what a clause gives speaks of nothing that its own pattern binds and the other's does not"""
-    bound = set(re.findall(r'\w+', own)) - set(re.findall(r'\w+', other))
-    return not bound & set(re.findall(r'\w+', text))
-
-
-IS_GUARD = re.compile(r' +[^←]* orElse [^←]*$')
-
-
-def of_two(lines, i):
-    one, two = lines[i], lines[i + 1] if i + 1 < len(lines) else ''
-    if IS_GUARD.match(one):
-        yield 'dropped', [one], []
-        if IS_GUARD.match(two):
-            yield 'order', [one, two], [two, one]
-    if re.match(r' +else if .* then ', one):
-        yield 'dropped', [one], []
-    new = exchanged(one, two)
-    if new and new != [one, two]:
-        yield 'exchanged', [one, two], new
-
-
-# ---- all edits
-
-def declared(names):
-    """of each field its type, of each definition its signature; and which names have the same"""
-    types, by_record, by_signature = {}, collections.defaultdict(list), collections.defaultdict(list)
-    for crate in names:
-        for path in glob.glob(f'{ROOT}/crates/{crate}/src/**/*.rt', recursive=True):
-            for name, body in re.findall(r'^pub struct (\w+) \{(.*?)^\}', open(path).read(), re.M | re.S):
-                for field, type_ in re.findall(r'^ +pub (\w+): (.*),$', body, re.M):
-                    types[field] = kind_of(type_)
-                    by_record[name, kind_of(type_)].append('.' + field)
-            for body in re.findall(r'^pub enum \w+ \{(.*?)^\}', open(path).read(), re.M | re.S):
-                by_signature[body] += re.findall(r'^ +(\w+),$', body, re.M)
-        for path in glob.glob(f'{ROOT}/crates/{crate}/specs/*.antt'):
-            text = open(path).read()
-            for name, body in re.findall(r'^pub record (\w+) : Type 0 where\n((?: +.*\n)*)', text, re.M):
-                for field, type_ in re.findall(r'^ +pub (\w+) : (.*)$', body, re.M):
-                    types[field] = type_
-                    by_record[name, type_].append('.' + field)
-            for name, type_ in re.findall(r'^(?:abbrev|unfoldable) pub (\w+) : (.*)$', text, re.M):
-                by_signature[crate, type_].append(name)
-    like = collections.defaultdict(list)
-    for group in list(by_record.values()) + list(by_signature.values()):
-        for k, name in enumerate(group):
-            if len(group) > 1:
-                like[name].append(group[(k + 1) % len(group)])
-    return types, like
-
-
-def kind_of(type_):
-    """the type that the definitions see: every number is one"""
-    return 'number' if re.fullmatch(r'[ui]\d+|usize', type_) else type_
-
-
-SKIPPED = re.compile(r'\s*(--|use |infix|pub |mutual|where$|$)|(abbrev|unfoldable) pub ')
-
-
-def edits_of(crate, path, types, like):
-    source = open(path).read()
-    lines, scope = source.split('\n'), set(re.findall(r'\w+', source))
-    short = os.path.relpath(path, ROOT)
-    stated = False
-    for i, line in enumerate(lines):
-        if re.match(r'pub (record|data) ', line):
-            stated = True
-        elif re.match(r'\S', line):
-            stated = False
-        if stated or SKIPPED.match(line) or re.match(r'\S.* =$', line):
-            continue
-        at = line.index(' = ') + 3 if re.match(r'\S.* = ', line) else 0  # of a clause, what it gives
-        text = line[at:]
-        free = scope - set(re.findall(r'\w+', line[:at]))  # names that this clause's own pattern does not bind
-        for kind, new in [*numbers(text), *words(text), *letters(text), *branches(text), *neighbours(text, like, free), *fields(text, types)]:
-            yield Edit(crate, short, i, kind, [line], [line[:at] + new])
-        for kind, old, new in of_two(lines, i):
-            yield Edit(crate, short, i, kind, old, new)
-
-
-def all_edits(names, chosen):
-    types, like = declared(names)
-    found = []
-    for crate in chosen:
-        for path in sorted(glob.glob(f'{ROOT}/crates/{crate}/specs/*.antt')):
-            found += edits_of(crate, path, types, like)
-    unique = {(e.path, e.line, tuple(e.old), tuple(e.new)): e for e in found if e.old != e.new}
-    return list(unique.values())
-
-
-def shown(edit):
-    place = f'{edit.path}:{edit.line + 1} ({edit.kind})'
-    return '\n'.join([place] + [f'  - {line.strip()}' for line in edit.old] + [f'  + {line.strip()}' for line in edit.new])
+def set_apart(own, other):
+    """moves the slow modules to a crate of their own, so that what is quick comes first"""
+    for folder in ('src', 'specs', 'proofs'):
+        os.makedirs(f'{other}/{folder}')
+    open(f'{other}/specs/Lib.antt', 'w').close()
+    shutil.copy(f'{own}/src/lib.rt', f'{other}/src')
+    with open(f'{own}/proofs/Lib.antt') as source:
+        listed_ = source.read()
+    for name in SLOW:
+        listed_ = listed_.replace(f'pub mod {name}\n', '')
+        with open(f'{own}/proofs/{name}.antt') as source, open(f'{other}/proofs/{name}.antt', 'w') as out:
+            out.write(re.sub(rf'Rattle·{STATEMENTS}·(specs|proofs)\.', rf'Rattle.{STATEMENTS}.', source.read()))
+        os.remove(f'{own}/proofs/{name}.antt')
+    with open(f'{own}/proofs/Lib.antt', 'w') as out:
+        out.write(listed_)
+    with open(f'{other}/proofs/Lib.antt', 'w') as out:
+        out.writelines(f'pub mod {name}\n' for name in SLOW)
 
 
 # ---- trying
@@ -275,13 +125,14 @@ def proved(place, crate):
 
 
 def above(crates, names, crate):
-    """the crate and those that stand on it, each after what it stands on"""
+    """the crate and those that stand on it, each after what it stands on; what the theorems do not stand on comes last"""
     order, reached = [], {crate}
     for name in names:
         if name == crate or reached & set(crates[name]):
             reached.add(name)
             order.append(name)
-    return order
+    below = set(crates['computed']) | {'computed', crate}
+    return [name for name in order if name in below] + [name for name in order if name not in below]
 
 
 class Place:
@@ -302,91 +153,171 @@ class Place:
                 shutil.copy2(kept, now)
 
     def tried(self, edit, order):
-        """'survive', 'refused' or 'ill-typed'"""
+        """'survive', 'refused' or 'ill-typed', and the module that is not proved"""
         path = f'{self.folder}/{edit.path}'
         with open(path) as source:
             text = source.read()
         lines = text.split('\n')
         first = next(k for k, line in enumerate(lines) if line.startswith('use '))
-        brought = bringing(text, edit.new)
+        brought = bringing(text, edit.new, edit.crate)
         lines[edit.line:edit.line + len(edit.old)] = edit.new
         lines[first:first] = brought
         with open(path, 'w') as out:
             out.write('\n'.join(lines))
-        verdict, touched = 'survive', []
+        verdict, by, touched = 'survive', '', []
         for crate in order:
             touched.append(crate)
             good, said = proved(self.folder, crate)
             if not good:
-                verdict = 'ill-typed' if crate == edit.crate and is_of_definitions(said, crate) else 'refused'
+                by = errors(said, crate)
+                verdict = 'ill-typed' if crate == edit.crate and f'crates/{crate}/specs/' in said else 'refused'
                 break
         with open(path, 'w') as out:
             out.write(text)
         for crate in touched:
             self.restored(crate)
-        return verdict
+        return verdict, by
 
 
-def is_of_definitions(said, crate):
-    """the first error stands in the crate's specs"""
-    found = re.search(rf'crates/{crate}/(specs|proofs|src)/', said)
-    return bool(found) and found.group(1) == 'specs'
+def errors(said, crate):
+    """the declarations that are not proved, but for those that only rest on such a one; at most three"""
+    found = re.findall(rf'crates/{crate}/\w+/(\S+)\.antt:\d+:\d+: error: (?:`(\S+)`: )?(?!.*was not admitted)', said)
+    names = list(dict.fromkeys(f'{crate}/{module}' + (f'.{name}' if name else '') for module, name in found))
+    return ', '.join(names[:3]) + (f' and {len(names) - 3} more' if len(names) > 3 else '') or crate
 
+
+# ---- which edits
+
+def all_edits(names, chosen, sorts):
+    """the edits of these sorts in the crates chosen; of the crate that states the theorems its premises alone"""
+    (types, like), known, found = declared(names), Known(names), []
+    for crate in chosen:
+        if crate == STATEMENTS:
+            found += premise_edits(known, crate, types, like) if 'premise' in sorts else []
+            continue
+        for path in sorted(glob.glob(f'{ROOT}/crates/{crate}/specs/*.antt')):
+            if UNBELIEVED not in open(path).readline():
+                found += edits_of(crate, path, types, like) if 'plain' in sorts else []
+                found += pointwise(known, crate, path) if 'pointwise' in sorts else []
+    return unique(found)
+
+
+def in_turn(groups):
+    """one of each group after the other, until all are used up"""
+    groups = [list(group) for group in groups]
+    while any(groups):
+        for group in groups:
+            if group:
+                yield group.pop(0)
+
+
+def spread(edits, seed):
+    """all edits, from each crate in turn, and in it from each definition in turn"""
+    chance, crates = random.Random(seed), {}
+    for edit in chance.sample(edits, len(edits)):
+        crates.setdefault(edit.crate, {}).setdefault((edit.path, edit.of), []).append(edit)
+    return list(in_turn([in_turn(crates[crate].values()) for crate in sorted(crates)]))
+
+
+class Waiting:
+    """the edits still to be tried, for several that take them: so many of each sort that are not ill-typed"""
+
+    def __init__(self, by_sort, wanted):
+        self.left, self.wanted, self.taken, self.lock = by_sort, wanted, collections.Counter(), threading.Condition()
+        self.at_work = collections.Counter()
+
+    def get(self):
+        """the next one, None where there is none; of the sort that is furthest behind"""
+        with self.lock:
+            while True:
+                open_ = [sort for sort in self.left if self.left[sort] and self.taken[sort] < self.wanted[sort]]
+                free = [sort for sort in open_ if self.taken[sort] + self.at_work[sort] < self.wanted[sort]]
+                if free:
+                    sort = min(free, key=lambda each: (self.taken[each] + self.at_work[each]) / self.wanted[each])
+                    self.at_work[sort] += 1
+                    return self.left[sort].pop(0)
+                if not open_:
+                    return None
+                self.lock.wait()  # an edit at work may turn out to be ill-typed
+
+    def done(self, edit, counts):
+        with self.lock:
+            self.at_work[edit.sort] -= 1
+            self.taken[edit.sort] += counts
+            self.lock.notify_all()
+
+
+def chosen_by(seeds, tries, edits):
+    """what each seed chooses, each edit once, all of them wanted"""
+    picked = {}
+    for seed in seeds.split(','):
+        for edit in random.Random(int(seed)).sample(edits, min(tries, len(edits))):
+            picked[shown(edit)] = edit
+    by_sort = {sort: [edit for edit in picked.values() if edit.sort == sort] for sort in SORTS}
+    return Waiting(by_sort, {sort: len(by_sort[sort]) + 1 for sort in SORTS})
+
+
+def planned(plan, seed, edits):
+    """so many of each sort, from each crate and definition in turn"""
+    by_sort = {sort: spread([edit for edit in edits if edit.sort == sort], seed) for sort in SORTS}
+    return Waiting(by_sort, dict(zip(SORTS, map(int, plan.split(',')))))
+
+
+# ---- all of them
 
 def options():
     parser = argparse.ArgumentParser(description=__doc__, formatter_class=argparse.RawDescriptionHelpFormatter)
+    parser.add_argument('--plan', nargs='?', const=PLAN)
     parser.add_argument('--tries', type=int, default=40)
     parser.add_argument('--seeds', default='1')
+    parser.add_argument('--sorts', default=','.join(SORTS))
     parser.add_argument('--jobs', type=int, default=1)
     parser.add_argument('--at', default='')
+    parser.add_argument('--copy', default='')
     parser.add_argument('--print', action='store_true', dest='prints')
     parser.add_argument('--list', action='store_true')
     parser.add_argument('crates', nargs='*')
     return parser.parse_args()
 
 
-def chosen_by(seeds, tries, edits):
-    """what each seed chooses, each edit once"""
-    picked = {}
-    for seed in seeds.split(','):
-        for edit in random.Random(int(seed)).sample(edits, min(tries, len(edits))):
-            picked[shown(edit)] = edit
-    return list(picked.values())
+def told(edit, verdict, by, seconds, prints):
+    """what is said of an edit that was tried"""
+    if verdict == 'survive':
+        return f'SURVIVES, {seconds:.0f} s, {shown(edit)}'
+    which = shown(edit) if prints else shown(edit).split('\n', 1)[0]
+    return f'{verdict} by {by}, {seconds:.0f} s, {which}'
 
 
-def try_all(edits, crates, names, jobs, prints):
-    """how many edits came to which verdict; shows the survivors, and every edit if asked to"""
-    count, todo, printing = collections.Counter(), queue.Queue(), threading.Lock()
-    for edit in edits:
-        todo.put(edit)
+def try_all(waiting, crates, names, jobs, copy, prints):
+    """how many edits of each sort came to which verdict; says of each what came of it, and shows the survivors"""
+    count, printing = collections.Counter(), threading.Lock()
     with tempfile.TemporaryDirectory() as work:
-        stripped = f'{work}/stripped'
+        stripped = copy or f'{work}/stripped'
         strip(crates, names, stripped)
         for name in names:
             good, said = proved(stripped, name)
             if not good:
                 sys.exit(f'the stripped copy of {name} is not proved:\n{said[-2000:]}')
+        print('the stripped copy is proved', flush=True)
 
         def try_in(place):
-            while True:
-                try:
-                    edit = todo.get_nowait()
-                except queue.Empty:
-                    break
-                verdict = place.tried(edit, above(crates, names, edit.crate))
+            for edit in iter(waiting.get, None):
+                start = time.time()
+                verdict, by = place.tried(edit, above(crates, names, edit.crate))
                 with printing:
-                    count[verdict] += 1
-                    if prints or verdict == 'survive':
-                        print('SURVIVES' if verdict == 'survive' else verdict, shown(edit), flush=True)
+                    count[edit.sort, verdict] += 1
+                    number = sum(count.values())
+                    print(f'{number}.', told(edit, verdict, by, time.time() - start, prints), flush=True)
+                waiting.done(edit, verdict != 'ill-typed')
             if not all(proved(place.folder, name)[0] for name in names):
-                count['left a trace'] += 1
+                count['', 'left a trace'] += 1
 
         workers = [threading.Thread(target=try_in, args=(Place(f'{work}/place{k}', stripped),)) for k in range(jobs)]
         for worker in workers:
             worker.start()
         for worker in workers:
             worker.join()
-    if count['left a trace']:
+    if count['', 'left a trace']:
         sys.exit('an edit left a trace in the copy, so the figures would say nothing')
     return count
 
@@ -395,16 +326,20 @@ def main():
     asked = options()
     crates = listed()
     names = defining(crates)
-    edits = [e for e in all_edits(names, asked.crates or [c for c in names if c != STATEMENTS]) if asked.at in f'{e.path}:{e.line + 1}']
+    crates['computed'] = crates[STATEMENTS] + [STATEMENTS]
+    edits = [e for e in all_edits(names, asked.crates or names, asked.sorts.split(',')) if asked.at in f'{e.path}:{e.line + 1}']
     if asked.list:
         print('\n'.join(shown(e) for e in edits))
         print(f'{len(edits)} edits to choose from')
         return 0
-    tried = chosen_by(asked.seeds, asked.tries, edits)
-    count = try_all(tried, crates, names, asked.jobs, asked.prints)
-    print(f'{len(edits)} edits to choose from, {len(tried)} tried, {count["refused"]} refused, {count["ill-typed"]} ill-typed, '
-          f'{count["survive"]} survive')
-    return 1 if count['survive'] else 0
+    waiting = planned(asked.plan, int(asked.seeds), edits) if asked.plan else chosen_by(asked.seeds, asked.tries, edits)
+    count = try_all(waiting, crates, names + ['computed'], asked.jobs, asked.copy, asked.prints)
+    for sorts in [(sort,) for sort in SORTS] + [SORTS]:
+        verdicts = {verdict: sum(count[sort, verdict] for sort in sorts) for verdict in ('refused', 'ill-typed', 'survive')}
+        choice = len([e for e in edits if e.sort in sorts])
+        print(f'{sorts[0] if len(sorts) == 1 else "all"}: {choice} edits to choose from, {sum(verdicts.values())} tried, '
+              f'{verdicts["refused"]} refused, {verdicts["ill-typed"]} ill-typed, {verdicts["survive"]} survive')
+    return 1 if any(verdict == 'survive' for _, verdict in count) else 0
 
 
 if __name__ == '__main__':

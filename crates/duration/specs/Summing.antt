@@ -1,5 +1,5 @@
--- How the code sums: ticks up to one more than are told, and whether an idle loop or a Bad line was met. Nobody has to believe it: `report` is
--- proved by it to tell what `Report` says.
+-- Nobody has to believe this: it says how the code goes, and no theorem speaks of it.
+-- How the code sums: ticks up to one more than are told, and whether an idle loop or a Bad line was met.
 use Prim.Native.Nat.{ℕ, _+_, _*_, _≤_, _<_}
 use mathlib.Core.Bool.{Bool, false, true, not, _&&_, _||_}
 use mathlib.Core.List.{List}

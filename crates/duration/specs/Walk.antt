@@ -1,5 +1,5 @@
--- How the code finds a tangle, line by line, with the Next of the last For of each counter. Nobody has to believe it: `Faults.tangled-is` proves that
--- it finds what the rule does.
+-- Nobody has to believe this: it says how the code goes, and no theorem speaks of it.
+-- How the code finds a tangle: line by line, with the Next of the last For of each counter. `Faults.tangled-is` proves that it is the rule's.
 use Prim.Native.Nat.{ℕ, zero, suc, _-_}
 use mathlib.Core.Path.{_≡_}
 use mathlib.Core.Bool.{Bool, false, _&&_, _||_, not}

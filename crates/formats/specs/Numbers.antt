@@ -1,3 +1,4 @@
+-- Nobody has to believe this: it says how the code goes, and no theorem speaks of it.
 -- The answers of the readers of a number: what each stands for.
 use Prim.Native.Nat.{ℕ}
 use Rattle.formats.specs.Checks.{Res, refused, passed}

@@ -1,3 +1,4 @@
+-- Nobody has to believe this: it says how the code goes, and no theorem speaks of it.
 -- What a For or a Next takes of a run, its line and the counter that it names, and what it changes of it: these two, and no other part.
 use Prim.Native.Nat.{ℕ}
 use mathlib.Core.Path.{_≡_}

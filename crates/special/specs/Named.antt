@@ -1,3 +1,4 @@
+-- Nobody has to believe this: it says how the code goes, and no theorem speaks of it.
 -- The answer of a check for a special command, as the code gives it.
 use Rattle.formats.specs.Checks.{Res, refused, passed}
 use Rattle.special.specs.declared.Special.{Special}

@@ -1,3 +1,4 @@
+-- Nobody has to believe this: it says how the code goes, and no theorem speaks of it.
 -- The answer of the reader of a line: the line, or its error.
 use Rattle.formats.specs.Checks.{Res, refused, passed}
 use Rattle.lines.specs.declared.Line.{Line}

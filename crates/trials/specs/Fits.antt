@@ -1,3 +1,4 @@
+-- Nobody has to believe this: it says how the code goes, and no theorem speaks of it.
 -- The buffers and what can be lent of them.
 use mathlib.Core.Path.{_≡_}
 use mathlib.Core.List.{List}

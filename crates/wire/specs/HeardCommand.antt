@@ -1,3 +1,4 @@
+-- Nobody has to believe this: it says how the code goes, and no theorem speaks of it.
 -- The answers of the reader of a command: its data, and what it asks for, or the error.
 use Rattle.formats.specs.Checks.{Res, refused, passed}
 use Rattle.wire.specs.declared.Data.{Data}

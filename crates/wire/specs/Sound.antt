@@ -1,3 +1,4 @@
+-- Nobody has to believe this: it says how the code goes, and no theorem speaks of it.
 -- What the checks of a command leave to its doing: addresses and parameters in reach.
 use Prim.Native.Nat.{ℕ, _≤_}
 use mathlib.Core.Path.{_≡_}
