@@ -22,3 +22,6 @@ pub mod LentBytes
 pub mod Sent
 pub mod Specials
 pub mod Errors
+pub mod Walks
+pub mod Applying
+pub mod Scripts
