@@ -30,7 +30,8 @@ use Rattle.demands.specs.Told.{Told, told, Never}
 use Rattle.demands.specs.ReadBack.{Arrives}
 use Rattle.demands.specs.FirstSteps.{hasRead, hasWritten}
 use Rattle.demands.specs.Walks.{Act, asksOf, setOut, madeOf, Trail}
-use Rattle.demands.specs.Applying.{copy, goes, _behind_, oneMore, powersAt, end, never, arrives, namesNone, First, firstBy, Reads, reads, NoSuch, noSuch}
+use Rattle.demands.specs.Premises.{copy, goes, _behind_, oneMore, powersAt, end, never, arrives, namesNone}
+use Rattle.demands.specs.Applying.{First, firstBy, Reads, reads, NoSuch, noSuch}
 use Rattle.demands.proofs.Walked.{
   calls,
   Reached,
@@ -100,49 +101,53 @@ module _ (x : First) where
     abbrev a : Areas
     a = madeOf end (last .last) .areas
 
--- `first-read`, `no-read-before`
+-- what `first-read` and `no-read-before` say of these calls
+abbrev pub FirstReadSo : First → Type 0
+FirstReadSo x =
+    (isBad (lineAt (a x (x .next) .program) 0) ≡ false
+    → reply (seen (now x (x .next)) (ending (a x (x .next)))) ≡ ended (lineText (lineAt (a x (x .next) .program) 0)))
+    × (reply (seen (now x (x .previous)) (ending (a x (x .previous)))) ≡ ended (errorText 4))
+
 module _ (x : First) (ok : AllTrue (firstBy x "CR" "" hasRead)) where
   at : (i : ℕ) → nth i (firstBy x "CR" "" hasRead) ≡ true
   at = holds-at (firstBy x "CR" "" hasRead) ok
 
-  pub next-read-applies : isBad (lineAt (a x (x .next) .program) 0) ≡ false
-      → reply (seen (now x (x .next)) (ending (a x (x .next)))) ≡ ended (lineText (lineAt (a x (x .next) .program) 0))
+  pub first-read-applies : FirstReadSo x
   unfolding firstBy text
-  next-read-applies =
-      first-read (before x) (later x (x .next)) (lent x) (unmoved x (x .next) hasRead (at 0) (at 1)) (a x (x .next)) (arrives-reached (at-now x (x .next)) _ (at 2))
-      (taken-so (at-now x (x .next)) end (at 4)) .0
+  first-read-applies = (
+    first-read (before x) (later x (x .next)) (lent x) (unmoved x (x .next) hasRead (at 0) (at 1)) (a x (x .next))
+        (arrives-reached (at-now x (x .next)) _ (at 2))
+        (taken-so (at-now x (x .next)) end (at 4)) .0,
+    no-read-before (before x) (later x (x .previous)) (lent x) (unmoved x (x .previous) hasRead (at 0) (at 6)) (a x (x .previous)) (text (x .left))
+        (leb-true _ _ (at 10)) (arrives-reached (at-now x (x .previous)) _ (at 7)) (taken-so (at-now x (x .previous)) end (at 8)),
+  )
 
-  pub no-read-applies : reply (seen (now x (x .previous)) (ending (a x (x .previous)))) ≡ ended (errorText 4)
-  unfolding firstBy
-  no-read-applies =
-      no-read-before (before x) (later x (x .previous)) (lent x) (unmoved x (x .previous) hasRead (at 0) (at 6)) (a x (x .previous)) (text (x .left)) (leb-true _ _ (at 10))
-      (arrives-reached (at-now x (x .previous)) _ (at 7)) (taken-so (at-now x (x .previous)) end (at 8))
+-- what `first-write`, `first-accepted` and `no-write-before` say of these calls
+abbrev pub FirstWriteSo : First → String → Type 0
+FirstWriteSo x line = let s = seen (now x (x .next)) (ending (a x (x .next))) in
+    Sent (text line) (lineAt (s .areas .program) 0) × (reply s ≡ ended (text "OK"))
+    × (reply (seen (now x (x .previous)) (ending (a x (x .previous)))) ≡ ended (errorText 4))
 
--- `first-write`, `first-accepted`, `no-write-before`
-module _ (x : First) (line : String) (ok : AllTrue (firstBy x "CW" line hasWritten)) where
+module _ (x : First) (line : String) (ok : AllTrue (firstBy x "CW" line hasWritten)) (is : same (text (x .reply)) (text "OK") ≡ true) where
   write-at : (i : ℕ) → nth i (firstBy x "CW" line hasWritten) ≡ true
   write-at = holds-at (firstBy x "CW" line hasWritten) ok
 
-  pub next-write-applies : (x .reply ≡ "OK") → let s = seen (now x (x .next)) (ending (a x (x .next))) in
-      Sent (text line) (lineAt (s .areas .program) 0) × (reply s ≡ ended (text "OK"))
+  pub first-write-applies : FirstWriteSo x line
   unfolding firstBy
-  next-write-applies is =
+  first-write-applies =
       let unwritten = unmoved x (x .next) hasWritten (write-at 0) (write-at 1) in
       let arrived = arrives-reached (at-now x (x .next)) _ (write-at 2) in
       let taken = taken-so (at-now x (x .next)) end (write-at 4) in
-      let said = reply-so (at-now x (x .next)) end _ (write-at 5) ∙ ap (λ r. ended (text r)) is in
+      let said = reply-so (at-now x (x .next)) end _ (write-at 5) ∙ ap ended (same-equal (text (x .reply)) (text "OK") is) in
       let sent = first-write (before x) (later x (x .next)) (lent x) unwritten (a x (x .next)) (text line) arrived taken said in (
         sent,
         first-accepted (before x) (later x (x .next)) (lent x) unwritten (a x (x .next)) _ (sent .fits)
             (subst (λ cs. Arrives (told (now x (x .next))) (text "CW" ++ (text "I" ++ cs))) (sym (sent .shows)) arrived)
             (ap (λ (t : Told). t .run .on) (at-now x (x .next) .told) ∙ not-true _ (write-at 3)) taken,
+        no-write-before (before x) (later x (x .previous)) (lent x) (unmoved x (x .previous) hasWritten (write-at 0) (write-at 6)) (a x (x .previous))
+            (text (x .left)) (leb-true _ _ (write-at 10)) (arrives-reached (at-now x (x .previous)) _ (write-at 7))
+            (taken-so (at-now x (x .previous)) end (write-at 8)),
       )
-
-  pub no-write-applies : reply (seen (now x (x .previous)) (ending (a x (x .previous)))) ≡ ended (errorText 4)
-  unfolding firstBy
-  no-write-applies =
-      no-write-before (before x) (later x (x .previous)) (lent x) (unmoved x (x .previous) hasWritten (write-at 0) (write-at 6)) (a x (x .previous)) (text (x .left)) (leb-true _ _ (write-at 10))
-      (arrives-reached (at-now x (x .previous)) _ (write-at 7)) (taken-so (at-now x (x .previous)) end (write-at 8))
 
 -- ---- one command
 
@@ -156,24 +161,30 @@ module _ (x : Reads) where
   abbrev areasThen : Areas
   areasThen = madeOf end (goes (x .before) .last) .areas
 
+  -- what `reads-as-told` asks of a read, and what `bad-read` says
+  abbrev pub ReadSo : Type 0
+  ReadSo =
+      Arrives (told readBefore) (text "CR" ++ text (x .address)) × Names (told readBefore .nextRead) (x .k) (text (x .address))
+      × (isTaken (seen readBefore (ending areasThen)) ≡ true) × (x .isOnBad ≡ true → reply (seen readBefore (ending areasThen)) ≡ ended (errorText 24))
+
   module _ (ok : AllTrue (reads x)) where
     read-at : (i : ℕ) → nth i (reads x) ≡ true
     read-at = holds-at (reads x) ok
 
-    -- what `reads-as-told` asks of a read
-    pub one-read-applies : Arrives (told readBefore) (text "CR" ++ text (x .address)) × Names (told readBefore .nextRead) (x .k) (text (x .address))
-        × (isTaken (seen readBefore (ending areasThen)) ≡ true)
+    pub read-applies : ReadSo
     unfolding reads
-    one-read-applies = (arrives-reached at-one _ (read-at 0), read-named at-one (x .k) _ (read-at 1), taken-so at-one end (read-at 4))
-
-    -- `bad-read`
-    pub bad-read-applies : x .isOnBad ≡ true → reply (seen readBefore (ending areasThen)) ≡ ended (errorText 24)
-    unfolding reads
-    bad-read-applies is =
-        let p = one-read-applies in
-        let le : leb (x .k) 199 ≡ true = rw is at (read-at 2) in
-        let bad : isBad (lineAt (goes (x .before) .last .held .program) (x .k)) ≡ true = rw is at (read-at 3) in
-        bad-read readBefore areasThen (text (x .address)) (p .0) (p .2) (x .k) (leb-true _ _ le) (p .1) (is-bad _ bad)
+    read-applies =
+        let arrived = arrives-reached at-one _ (read-at 0) in
+        let named = read-named at-one (x .k) _ (read-at 1) in
+        let taken = taken-so at-one end (read-at 4) in (
+          arrived,
+          named,
+          taken,
+          λ is.
+              let le : leb (x .k) 199 ≡ true = rw is at (read-at 2) in
+              let bad : isBad (lineAt (goes (x .before) .last .held .program) (x .k)) ≡ true = rw is at (read-at 3) in
+              bad-read readBefore areasThen (text (x .address)) arrived taken (x .k) (leb-true _ _ le) named (is-bad _ bad),
+        )
 
 -- ---- no such address
 
@@ -203,15 +214,18 @@ module _ (x : NoSuch) where
   abbrev areasMissing : Areas
   areasMissing = madeOf end (goes (x .before) .last) .areas
 
-  -- `no-such-read`, `no-such-write`
-  pub missing-applies : AllTrue (noSuch x) → reply (seen missBefore (ending areasMissing)) ≡ ended (errorText 4)
+  -- what `no-such-read` and `no-such-write` say
+  abbrev pub MissingSo : Type 0
+  MissingSo = reply (seen missBefore (ending areasMissing)) ≡ ended (errorText 4)
+
+  pub missing-applies : AllTrue (noSuch x) → MissingSo
   unfolding noSuch
   missing-applies ok = go (x .isRead) refl
     where
       t : (i : ℕ) → nth i (noSuch x) ≡ true
       t = holds-at (noSuch x) ok
 
-      go : (c : Bool) → x .isRead ≡ c → reply (seen missBefore (ending areasMissing)) ≡ ended (errorText 4)
+      go : (c : Bool) → x .isRead ≡ c → MissingSo
       go true e =
           let few : leb (length (text "CR" ++ (text (x .address) ++ text (x .left)))) mostChars ≡ true = rw e at (t 0) in
           let here : arrives (goes (x .before) .last .told) (text "CR" ++ (text (x .address) ++ text (x .left))) ≡ true = rw e at (t 1) in

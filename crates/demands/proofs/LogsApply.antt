@@ -21,7 +21,8 @@ use Rattle.demands.specs.Told.{Told, told}
 use Rattle.demands.specs.Changes.{noneBegins, changes}
 use Rattle.demands.specs.LentBytes.{lendsBytes, lendBytes}
 use Rattle.demands.specs.Walks.{asking, asksOf, setOut, madeOf, Trail, trail, moment}
-use Rattle.demands.specs.Applying.{copy, goes, _behind_, oneMore, powersAt, emptiesTo, isOutside, Logs, logs, lend}
+use Rattle.demands.specs.Premises.{copy, goes, _behind_, oneMore, powersAt}
+use Rattle.demands.specs.Applying.{emptiesTo, isOutside, Logs, logs, lend}
 use Rattle.demands.proofs.Walked.{
   calls,
   Reached,
@@ -129,6 +130,20 @@ module _ (x : Logs) where
   at-twice : Reached twice (m .last)
   at-twice = subst (λ cs. Reached cs (m .last)) joined at-last
 
+  -- what `emptying-tells` says of both emptyings, the first being one of the calls before the second
+  abbrev pub LogsSo : Type 0
+  LogsSo =
+      (seen once (emptyingTo b) .areas .out ≡ over (history (places (told once .logLength)) (changes once)) (b .out))
+      × (seen twice (emptyingTo a) .areas .out ≡ over (history (places (told twice .logLength)) (changes twice)) (a .out))
+
+  -- what `emptied-reads`, `logs-join` and `word-at-tick` say of them
+  abbrev pub ListsSo : Type 0
+  ListsSo = let zs = once ++ (emptyingTo b ∷ []) in
+      (rs : List Record) × ((ss : List Record) × (
+      (reading (emptiedBy once b) ≡ passed rs) × (reading (emptiedBy twice a) ≡ passed ss)
+      × (let w = latestWord (outputs on) rs in (earliestWord w ss ≡ w) × (w ≡ outputs once))
+      × (wordAt (outputs zs) (told (zs ++ us) .ticks) ss ≡ outputs (zs ++ us))))
+
   module _ (ok : AllTrue (logs x)) where
     at : (i : ℕ) → nth i (logs x) ≡ true
     at = holds-at (logs x) ok
@@ -141,15 +156,12 @@ module _ (x : Logs) where
     unfolding logs
     first-taken = taken-so at-once (emptiesTo (x .first)) (at 1)
 
-    -- `emptying-tells`, of the first emptying
-    pub first-applies : seen once (emptyingTo b) .areas .out ≡ over (history (places (told once .logLength)) (changes once)) (b .out)
-    first-applies = emptying-tells before lent ms hands-first b (hand-reached at-once emptying (length (x .first))) first-taken .0
-
     hands-later : AllHandOn (after unpowered (once ++ (emptyingTo b ∷ []))) later
     unfolding logs after
     hands-later =
         hands-append (once ++ (emptyingTo b ∷ [])) us (ticking c ∷ vs) (hands-reached emptied (asksOf (x .later)) (at 4))
-        (hands-append ((once ++ (emptyingTo b ∷ [])) ++ us) (ticking c ∷ []) vs (hand-reached at-tick tick 16, tt) (hands-reached ticked (asksOf (x .last)) (at 8)))
+        (hands-append ((once ++ (emptyingTo b ∷ [])) ++ us) (ticking c ∷ []) vs (hand-reached at-tick tick 16, tt)
+        (hands-reached ticked (asksOf (x .last)) (at 8)))
 
     hands : AllHandOn (after unpowered on) (ms ++ (emptyingTo b ∷ later))
     unfolding after
@@ -164,9 +176,11 @@ module _ (x : Logs) where
     second-hand : HandsOn (after unpowered twice) (emptyingTo a)
     second-hand = hand-reached at-twice emptying (length (x .second))
 
-    -- and of the second, the first being one of the calls before it
-    pub second-applies : seen twice (emptyingTo a) .areas .out ≡ over (history (places (told twice .logLength)) (changes twice)) (a .out)
-    second-applies = emptying-tells before lent (ms ++ (emptyingTo b ∷ later)) hands a second-hand second-taken .0
+    pub logs-apply : LogsSo
+    logs-apply = (
+      emptying-tells before lent ms hands-first b (hand-reached at-once emptying (length (x .first))) first-taken .0,
+      emptying-tells before lent (ms ++ (emptyingTo b ∷ later)) hands a second-hand second-taken .0,
+    )
 
     -- every lent area holds bytes
     module _ (ok′ : AllTrue (lend x)) where
@@ -176,7 +190,8 @@ module _ (x : Logs) where
       bytes-once : lendBytes once ≡ true
       unfolding lend trail moment
       bytes-once =
-          all-append lendsBytes on ms (all-append lendsBytes before (powering lent ∷ []) (bytes-trail (goes (x .before) .moments) (bytes-at 0)) (bytes-trail (o .moments) (bytes-at 1)))
+          all-append lendsBytes on ms
+          (all-append lendsBytes before (powering lent ∷ []) (bytes-trail (goes (x .before) .moments) (bytes-at 0)) (bytes-trail (o .moments) (bytes-at 1)))
           (bytes-trail (n .moments) (bytes-at 2))
 
       bytes-later : lendBytes (emptyingTo b ∷ later) ≡ true
@@ -203,27 +218,25 @@ module _ (x : Logs) where
       none-once = begins-reached at-on (asksOf (x .once)) (at 3)
 
       -- what `emptied-reads` finds in both logs
-      pub first-records : (rs : List Record) × (reading (emptiedBy once b) ≡ passed rs)
+      first-records : (rs : List Record) × (reading (emptiedBy once b) ≡ passed rs)
       first-records =
           let r = LogReads.emptied-reads before lent ms hands-first b (hand-reached at-once emptying (length (x .first))) first-taken bytes-once in
           (r .0, r .1)
 
-      pub second-records : (rs : List Record) × (reading (emptiedBy twice a) ≡ passed rs)
+      second-records : (rs : List Record) × (reading (emptiedBy twice a) ≡ passed rs)
       second-records =
           let r = LogReads.emptied-reads before lent (ms ++ (emptyingTo b ∷ later)) hands a second-hand second-taken bytes-twice in
           (r .0, r .1)
 
-      -- `logs-join`
-      pub join-applies : let w = latestWord (outputs on) (first-records .0) in (earliestWord w (second-records .0) ≡ w) × (w ≡ outputs once)
-      join-applies =
+      join-so : let w = latestWord (outputs on) (first-records .0) in (earliestWord w (second-records .0) ≡ w) × (w ≡ outputs once)
+      join-so =
           LogWords.logs-join before lent ms later b hands first-taken a second-hand second-taken bytes-twice
           (begins-append (once ++ (emptyingTo b ∷ [])) us (ticking c ∷ vs) none-later none-tick) on ms refl (LogWords.powered-begins before lent .0) none-once
           (first-records .0) (second-records .0) (first-records .1) (second-records .1)
 
-      -- `word-at-tick`
-      pub word-applies : let zs = once ++ (emptyingTo b ∷ []) in wordAt (outputs zs) (told (zs ++ us) .ticks) (second-records .0) ≡ outputs (zs ++ us)
+      word-so : let zs = once ++ (emptyingTo b ∷ []) in wordAt (outputs zs) (told (zs ++ us) .ticks) (second-records .0) ≡ outputs (zs ++ us)
       unfolding logs
-      word-applies =
+      word-so =
           let zs = once ++ (emptyingTo b ∷ []) in
           let is : twice ≡ (zs ++ us) ++ (ticking c ∷ vs) = sym joined ∙ append-assoc (zs ++ us) (ticking c ∷ []) vs in
           let read : reading (x .second) ≡ passed (second-records .0) =
@@ -232,3 +245,6 @@ module _ (x : Logs) where
           ap (λ (t : Told). isOutsideGap (t .ticks) (second-records .0)) (at-tick .told) ∙ sym (ap (isOutside (l .last .told .ticks)) read) ∙ at 7 in
           LogWords.word-at-tick before lent (ms ++ (emptyingTo b ∷ later)) hands a second-hand second-taken bytes-twice (second-records .0) (second-records .1)
           zs us vs c is (LogWords.emptied-begins once b first-taken .0) none-later (taken-so at-tick (asking tick) (at 6)) none-tick out
+
+      pub lists-apply : ListsSo
+      lists-apply = (first-records .0, (second-records .0, (first-records .1, second-records .1, join-so, word-so)))

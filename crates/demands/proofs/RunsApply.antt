@@ -26,27 +26,8 @@ use Rattle.demands.specs.Told.{Told, said, starts, tell, tellAll, told, 
 use Rattle.demands.specs.ReadBack.{Arrives}
 use Rattle.demands.specs.Undisturbed.{Unbroken, isBroken, isPausing}
 use Rattle.demands.specs.Walks.{Ask, asking, asksOf, setOut, madeOf, noteBy, Trail, trail}
-use Rattle.demands.specs.Applying.{
-  copy,
-  goes,
-  _behind_,
-  oneMore,
-  end,
-  handsOn,
-  never,
-  ruledAt,
-  isGiven,
-  Begins,
-  begins,
-  Runs,
-  runs,
-  onTime,
-  onBad,
-  endsSo,
-  AtOnce,
-  atOnce,
-  pausesNot,
-}
+use Rattle.demands.specs.Premises.{copy, goes, _behind_, oneMore, end, handsOn, never, ruledAt, isGiven}
+use Rattle.demands.specs.Applying.{Begins, begins, Runs, runs, onTime, onBad, goesOn, Ends, endsSo, AtOnce, atOnce, pausesNot}
 use Rattle.demands.proofs.Telling.{after-more, told-more}
 use Rattle.demands.proofs.Walked.{
   calls,
@@ -150,6 +131,20 @@ module _ (x : Runs) where
   abbrev ruledNow : Run
   ruledNow = ruledAt (goes (s .before)) (s .line) (x .count)
 
+  -- what `runs-by-the-rules`, `outputs-by-the-rules` and `ends-by-the-rules` say of these calls, and what `reads-by-the-rules` asks of a read
+  abbrev pub RunsSo : Type 0
+  RunsSo =
+      (told now .run ≡ ruledNow) × (outputs now ≡ ruledNow .outputs)
+      × (told (now ++ (ticking t ∷ [])) .run ≡ tick (after unpowered p .program) ruledNow .run)
+      × Arrives (told now) (text "CR" ++ text (x .address)) × Names (told now .nextRead) (x .j) (text (x .address))
+      × (isTaken (seen now (ending (madeOf end (l .last) .areas))) ≡ true)
+
+  -- what `runs-as-long` and `ends-on-time` say, and `bad-tick`
+  abbrev pub EndsSo : Ends → Type 0
+  EndsSo onTime = let gone = told (now ++ (ticking t ∷ [])) in (told now .run .on ≡ true) × (gone .event ≡ 11) × (gone .run .on ≡ false)
+  EndsSo onBad = told (now ++ (ticking t ∷ [])) .event ≡ 14
+  EndsSo goesOn = Unit {0}
+
   module _ (ok : AllTrue (runs x)) where
     at : (i : ℕ) → nth i (runs x) ≡ true
     at = holds-at (runs x) ok
@@ -194,19 +189,6 @@ module _ (x : Runs) where
     unfolding runs begins
     on = ap (λ (r : Run). r .on) (ap ruled (count-reached (at-started s) (asksOf (x .later))) ∙ ruled-is _) ∙ at 5
 
-    -- `runs-by-the-rules` and `outputs-by-the-rules`, at the calls of the script
-    pub run-applies : (told now .run ≡ ruledNow) × (outputs now ≡ ruledNow .outputs)
-    run-applies = (
-      ByTheRules.runs-by-the-rules p q (s .line) ms taken start-at hands unbroken on .0 ∙ tested,
-      ByTheRules.outputs-by-the-rules p q (s .line) ms taken start-at hands unbroken on ∙ ap (λ (r : Run). r .outputs) tested,
-    )
-
-    -- what `reads-by-the-rules` asks of a read, beside that
-    pub read-applies : Arrives (told now) (text "CR" ++ text (x .address)) × Names (told now .nextRead) (x .j) (text (x .address))
-        × (isTaken (seen now (ending (madeOf end (l .last) .areas))) ≡ true)
-    unfolding runs begins
-    read-applies = (arrives-reached at-now _ (at 10), read-named at-now (x .j) _ (at 11), taken-so at-now end (at 12))
-
     -- the tick
     tick-taken : isTaken (seen now (ticking t)) ≡ true
     unfolding runs begins
@@ -219,33 +201,38 @@ module _ (x : Runs) where
     unfolding runs begins
     tick-unpaused = ap (λ (y : Told). y .paused) (at-now .told) ∙ not-true _ (at 6)
 
-    -- `ends-by-the-rules`
-    pub tick-applies : told (now ++ (ticking t ∷ [])) .run ≡ tick (after unpowered p .program) ruledNow .run
-    tick-applies =
-        ByTheRules.ends-by-the-rules p q (s .line) ms taken start-at hands unbroken on t tick-taken tick-hand tick-unpaused .0
-        ∙ ap (λ r. tick (after unpowered p .program) r .run) tested
+    pub runs-apply : RunsSo
+    unfolding runs begins
+    runs-apply = (
+      ByTheRules.runs-by-the-rules p q (s .line) ms taken start-at hands unbroken on .0 ∙ tested,
+      ByTheRules.outputs-by-the-rules p q (s .line) ms taken start-at hands unbroken on ∙ ap (λ (r : Run). r .outputs) tested,
+      ByTheRules.ends-by-the-rules p q (s .line) ms taken start-at hands unbroken on t tick-taken tick-hand tick-unpaused .0
+          ∙ ap (λ r. tick (after unpowered p .program) r .run) tested,
+      arrives-reached at-now _ (at 10),
+      read-named at-now (x .j) _ (at 11),
+      taken-so at-now end (at 12),
+    )
 
-    -- `runs-as-long`, `ends-on-time`
-    pub time-applies : AllTrue (endsSo onTime x) → let gone = told (now ++ (ticking t ∷ [])) in
-        (told now .run .on ≡ true) × (gone .event ≡ 11) × (gone .run .on ≡ false)
+    pub ends-apply : (kind : Ends) → AllTrue (endsSo kind x) → EndsSo kind
     unfolding endsSo
-    time-applies e =
+    ends-apply onTime e =
         let first = eqb-true (s .line) 0 (e .0) in
         let is : report (after unpowered p .program) ≡ passed (x .count + 1) =
         ap (λ (h : Held). report (h .program)) (at-start s .held) ∙ given-so _ _ (e .1 .0) in
         let ends = ByTheRules.ends-on-time p q (s .line) ms taken start-at hands unbroken first (x .count + 1) is (ap (λ n. n + 1) count-is) t tick-taken
         tick-hand tick-unpaused in
         (ByTheRules.runs-as-long p q (s .line) ms taken start-at hands unbroken first (x .count + 1) is (omega (arith, count-is)), ends .0, ends .1)
-
-    -- `bad-tick`
-    pub bad-applies : AllTrue (endsSo onBad x) → told (now ++ (ticking t ∷ [])) .event ≡ 14
-    unfolding endsSo
-    bad-applies e =
+    ends-apply onBad e =
         ByTheRules.bad-tick p q (s .line) ms taken start-at hands unbroken on t tick-taken tick-hand tick-unpaused
         (rw tested (leb-true _ _ (e .0))) (rw tested (ltb-true _ _ (e .1 .0)))
         (ap₂ (λ (h : Held) (r : Run). lineAt (h .program) (r .line + 1)) (at-start s .held) tested ∙ is-bad _ (e .1 .1 .0)) .0
+    ends-apply goesOn e = tt
 
 -- ---- a start that ends the program at once
+
+-- what `bad-start` and `ends-at-once` say of it
+abbrev pub OnceSo : AtOnce → Type 0
+OnceSo x = told (startedBy (x .begins)) .event ≡ (if x .isOnBad then 14 else 11)
 
 module _ (x : AtOnce) (ok : AllTrue (atOnce x)) where
   abbrev r : Begins
@@ -258,15 +245,15 @@ module _ (x : AtOnce) (ok : AllTrue (atOnce x)) where
   unfolding atOnce begins
   once-taken = start-taken r (tests 0)
 
-  once-starts : starts (r .start) (said (told (before r)) (note (after unpowered (before r)) (startCall r))) (startCall r .areas) (told (before r)) ≡ some (r .line)
+  once-starts :
+      starts (r .start) (said (told (before r)) (note (after unpowered (before r)) (startCall r))) (startCall r .areas) (told (before r)) ≡ some (r .line)
   unfolding atOnce begins
   once-starts = starts-so r (tests 1)
 
   once-hands : AllHandOn (after unpowered (before r)) (startCall r ∷ [])
   once-hands = (hand-reached (at-start r) (r .start) 16, tt)
 
-  -- `bad-start`, `ends-at-once`
-  pub once-applies : told (startedBy r) .event ≡ (if x .isOnBad then 14 else 11)
+  pub once-applies : OnceSo x
   unfolding atOnce begins notes
   once-applies = go (x .isOnBad) refl
     where
@@ -276,7 +263,8 @@ module _ (x : AtOnce) (ok : AllTrue (atOnce x)) where
       go : (c : Bool) → x .isOnBad ≡ c → told (startedBy r) .event ≡ (if c then 14 else 11)
       go true e =
           let is : isBad (lineAt (goes (r .before) .last .held .program) (r .line)) ≡ true = rw e at (tests 3) in
-          ByTheRules.bad-start (before r) (startCall r) (r .line) [] once-taken once-starts once-hands tt (ap (λ y. lineAt y (r .line)) program ∙ is-bad _ is) .0
+          ByTheRules.bad-start (before r) (startCall r) (r .line) [] once-taken once-starts once-hands tt
+          (ap (λ y. lineAt y (r .line)) program ∙ is-bad _ is) .0
       go false e =
           let two = both-true (eqb (r .line) 0) (isGiven (report (goes (r .before) .last .held .program)) 0) (rw e at (tests 3)) in
           ByTheRules.ends-at-once (before r) (startCall r) (r .line) [] once-taken once-starts once-hands tt (eqb-true (r .line) 0 (two .0)) 0
@@ -289,8 +277,11 @@ unfolding tellAll
 paused-kept [] y u v = refl
 paused-kept (n ∷ ns) y u v = paused-kept ns (tell y n) (u .1) (v .1) ∙ pauses-only y n (u .0) (v .0)
 
--- `pauses-only`, of every call after the start
-pub pauses-apply : (x : Runs) → AllTrue (pausesNot x) → told (now x) .paused ≡ told (startedBy (x .begins)) .paused
+-- what `pauses-only` says of every call after the start
+abbrev pub PausesSo : Runs → Type 0
+PausesSo x = told (now x) .paused ≡ told (startedBy (x .begins)) .paused
+
+pub pauses-apply : (x : Runs) → AllTrue (pausesNot x) → PausesSo x
 unfolding pausesNot
 pauses-apply x ok =
     let qs = asksOf (x .later) in

@@ -22,22 +22,8 @@ use Rattle.demands.specs.Undisturbed.{counts, unpaused}
 use Rattle.demands.specs.Changes.{begins, noneBegins}
 use Rattle.demands.specs.LentBytes.{lendBytes}
 use Rattle.demands.specs.Walks.{Lending, own, sized, anew, Ask, Walk, setOut, madeOf, nextBy, noteBy, Moment, wentOn, moment, trail, madeIn}
-use Rattle.demands.specs.Applying.{
-  never,
-  handsLent,
-  handsOn,
-  counted,
-  arrives,
-  names,
-  isGiven,
-  isSome,
-  notesIn,
-  lendsMoment,
-  failingOf,
-  failing,
-  Script,
-  testsOf,
-}
+use Rattle.demands.specs.Premises.{never, handsLent, handsOn, counted, arrives, names, isGiven, isSome, notesIn, lendsMoment}
+use Rattle.demands.specs.Applying.{failingOf, failing, Script, testsOf}
 use Rattle.demands.proofs.Telling.{after-more, told-more}
 
 -- ---- one call after the other
@@ -132,10 +118,12 @@ unfolding after
 hands-both [] ys h e f = f
 hands-both (m ∷ xs) ys h e f = (e .0, hands-both xs ys (next h m) (e .1) f)
 
-pub hands-append : (cs xs ys : List Made) → AllHandOn (after unpowered cs) xs → AllHandOn (after unpowered (cs ++ xs)) ys → AllHandOn (after unpowered cs) (xs ++ ys)
+pub hands-append : (cs xs ys : List Made) → AllHandOn (after unpowered cs) xs → AllHandOn (after unpowered (cs ++ xs)) ys
+    → AllHandOn (after unpowered cs) (xs ++ ys)
 hands-append cs xs ys e f = hands-both xs ys (after unpowered cs) e (subst (λ h. AllHandOn h ys) (after-more cs xs) f)
 
-begins-both : (xs ys : List Made) (h : Held) → noneBegins (notes h xs) ≡ true → noneBegins (notes (after h xs) ys) ≡ true → noneBegins (notes h (xs ++ ys)) ≡ true
+begins-both : (xs ys : List Made) (h : Held) → noneBegins (notes h xs) ≡ true → noneBegins (notes (after h xs) ys) ≡ true
+    → noneBegins (notes h (xs ++ ys)) ≡ true
 unfolding notes after
 begins-both [] ys h e f = f
 begins-both (m ∷ xs) ys h e f =
@@ -241,6 +229,10 @@ both-nil (x ∷ xs) ys e = absurd (cons-not-nil e)
 abbrev pub AllTrue : List Bool → Type 0
 AllTrue [] = Unit {0}
 AllTrue (b ∷ bs) = (b ≡ true) × AllTrue bs
+
+pub true-front : (xs ys : List Bool) → AllTrue (xs ++ ys) → AllTrue xs × AllTrue ys
+true-front [] ys e = (tt, e)
+true-front (x ∷ xs) ys e = let r = true-front xs ys (e .1) in ((e .0, r .0), r .1)
 
 -- the test number i, from 0
 abbrev pub nth : ℕ → List Bool → Bool

@@ -23,5 +23,6 @@ pub mod Sent
 pub mod Specials
 pub mod Errors
 pub mod Walks
+pub mod Premises
 pub mod Applying
 pub mod Scripts
