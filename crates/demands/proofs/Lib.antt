@@ -37,3 +37,9 @@ pub mod BadLines
 pub mod Unnamed
 pub mod FirstSteps
 pub mod Errors
+pub mod Walked
+pub mod BackApplies
+pub mod RunsApply
+pub mod FirstApplies
+pub mod LogsApply
+pub mod Applied

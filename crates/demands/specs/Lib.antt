@@ -22,3 +22,7 @@ pub mod LentBytes
 pub mod Sent
 pub mod Specials
 pub mod Errors
+pub mod Walks
+pub mod Premises
+pub mod Applying
+pub mod Scripts
