@@ -28,9 +28,12 @@ from promises import QUOTED, module_files, theorem_modules
 
 ROOT = os.path.dirname(os.path.dirname(os.path.abspath(__file__)))
 PAGE = 'docs/BELIEVED.md'
-STOPS = [('crates/controller/specs/Calls.antt', 'call')]  # what the code is proved against and the theorems speak of
+# What the code is proved against and the theorems speak of: the box, the report, the reader and its text. And what a theorem says in full, both
+# ways: which command the history reads off the characters (`Replies.accepted-exactly`).
+STOPS = [('crates/controller/specs/Calls.antt', 'call'), ('crates/duration/specs/Report.antt', 'report'), ('crates/reader/specs/Reading.antt', 'readingAs'),
+         ('crates/reader/specs/Listing.antt', 'listing'), ('crates/demands/specs/Said.antt', 'spoken')]
 WORDS = 'Nobody has to believe this'
-COMPUTED = 'demands/Worked'
+COMPUTED = ('demands/Worked', 'demands/Applied')
 CALLED = ('crates/calls/src/lib.rt', 'crates/nizhalepu/src/lib.rt', 'crates/durations/src/main.rt')
 
 # a definition, or a type of the sources: where it stands and what it is called
@@ -317,13 +320,13 @@ def reached(reader, stated, before):
 
 def groups(reader):
     """what is stated, by what it speaks of"""
-    seen = [pair for pair in theorem_modules() if pair[0] == 'demands' and '/'.join(pair) != COMPUTED]
-    computed = [pair for pair in theorem_modules() if '/'.join(pair) == COMPUTED]
+    seen = [pair for pair in theorem_modules() if pair[0] == 'demands' and '/'.join(pair) not in COMPUTED]
+    computed = [pair for pair in theorem_modules() if '/'.join(pair) in COMPUTED]
     other = [pair for pair in theorem_modules() if pair[0] != 'demands']
     return [('What can be seen of the box', 'The theorems of `demands`, but for the computed points.', stated_in(theorems(reader, seen))),
             ('Other theorems', 'Those of the report, of the record for C and of one call; what they add.', stated_in(theorems(reader, other))),
             ('Contracts', 'Those of what is called from outside, the library and the program `durations`; what they add.', contracts(reader)),
-            ('Computed points', f'What `{COMPUTED}` adds: the points and tables that are computed, and the language that they are written in.',
+            ('Computed points', 'What `demands/Worked` and `demands/Applied` add: the points, tables and histories that are computed, and the languages that they are written in.',
              stated_in(theorems(reader, computed)))] + reader.more
 
 

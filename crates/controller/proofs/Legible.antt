@@ -4,9 +4,9 @@ use mathlib.Core.Path.{_≡_, refl}
 use Prim.Native.Nat.{ℕ}
 use mathlib.Core.Bool.{Bool, true, false, not}
 use mathlib.Core.List.{List}
-use borrow.Author.Tests.{not-true, not-false}
+use borrow.Author.Tests.{not-true}
 use Rattle.formats.specs.Checks.{Res, refused, passed, _>>=_, _>>_, _orElse_, Ok}
-use Rattle.formats.proofs.Checks.{ok-bind, ok-passed, ok-guard, Err, err-bind, err-guard}
+use Rattle.formats.proofs.Checks.{ok-bind, ok-passed, ok-guard}
 use Rattle.wire.specs.declared.Data.{Data}
 use Rattle.wire.specs.declared.Asked.{Asked}
 use Rattle.wire.specs.declared.Asked.the-variants.{Read, Write}
@@ -61,15 +61,6 @@ module _ (bad : ℕ → Bool) where
       go : (q : Asked) → P q → Ok P (legible bad q)
       go (Read k) h = ok-guard P (not (bad k)) 24 _ λ _. h
       go (Write k x) h = h
-
-  -- an error is one of theirs, or E024 to a read of a Bad line
-  pub legible-err : (P : ℕ → Type 0) (r : Res Asked) → Err P r → ((k : ℕ) → r ≡ passed (Read k) → bad k ≡ true → P 24) → Err P (r >>= legible bad)
-  unfolding legible
-  legible-err P r err is = err-bind P r (legible bad) err go
-    where
-      go : (q : Asked) → r ≡ passed q → Err P (legible bad q)
-      go (Read k) f = err-guard P (not (bad k)) 24 _ (λ e. is k f (not-false (bad k) e)) λ _. tt
-      go (Write k x) f = tt
 
 -- ---- what is asked of the state, with the program that it is lent
 

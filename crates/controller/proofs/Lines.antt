@@ -15,9 +15,9 @@ use Rattle.formats.specs.Checks.{if_then_else_, Res, refused, passed, text, Ok}
 use Rattle.formats.specs.Digits.{errorText}
 use Rattle.formats.proofs.Checks.{if-case}
 use Rattle.lines.specs.declared.Line.{Line}
-use Rattle.lines.specs.Line.{readLine, bytesOf}
+use Rattle.lines.specs.Line.{readLine, bytesOf, Fits}
 use Rattle.lines.specs.Program.{lineAt}
-use Rattle.lines.proofs.Lines.{Fits, bytes-back}
+use Rattle.lines.proofs.Lines.{bytes-back}
 use Rattle.lines.proofs.Places.{put-same, put-other}
 use Rattle.variables.specs.Variables as Variables
 use Rattle.special.specs.declared.Special.{Special}

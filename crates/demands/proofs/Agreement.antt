@@ -1,7 +1,7 @@
 -- Every accepted call does to the box what the history says of it.
 -- Assumes nothing.
 use mathlib.Core.Path.{_≡_, refl, sym, ap, ap₂, _∙_}
-use Prim.Native.Nat.{ℕ, _+_}
+use Prim.Native.Nat.{ℕ, _+_, _≤_}
 use native.Mathlib.Omega.{arith}
 use mathlib.Core.Bool.{Bool, true, false, not, true≢false}
 use mathlib.Core.List.{[]}
@@ -10,8 +10,7 @@ use borrow.Author.Tests.{eqb-true}
 use Rattle.formats.specs.Checks.{Res, refused, passed}
 use Rattle.formats.proofs.Checks.{if-case, either-true}
 use Rattle.lines.specs.declared.Line.{Line}
-use Rattle.lines.specs.Line.{bytesOf}
-use Rattle.lines.proofs.Lines.{Fits}
+use Rattle.lines.specs.Line.{bytesOf, Fits}
 use Rattle.running.specs.declared.Run.{Run}
 use Rattle.running.specs.Running.{stopped, withOutputs, start, tick}
 use Rattle.variables.specs.Variables as Variables
@@ -40,6 +39,7 @@ use Rattle.controller.proofs.Alterations.{collect-is}
 use Rattle.controller.proofs.Refusals.{Checked}
 use Rattle.demands.specs.Said.{Said, silence, reads, writesLine, writesOutputs, writesParameter, gives}
 use Rattle.demands.specs.Told.{Told, afterwards}
+use Rattle.demands.proofs.Shown.{with-byte}
 use Rattle.demands.proofs.Collects.{nothing-collected, byte-collects}
 use Rattle.demands.proofs.Agrees.{Agrees, Hears, anError, aRead, aLine, anOutput, aParameter, aSpecial, as-told}
 use Rattle.demands.proofs.Agrees.{toldEvent, toldRun, toldWire, toldPanel, toldMoved, toldTicks, event-agrees, raise-agrees, run-agrees, wire-agrees}
@@ -79,10 +79,12 @@ module _ (t : Told) (c : Controller) (a : Areas) (g : Agrees t c) where
       go true e = rw (e, write) (panel-agrees _ _ (wrote-agrees k) (bytesOf l) l _ _ _ _ refl fits (g .panel .parameter) (g .panel .special))
       go false e = rw (e, write) (wrote-agrees k)
 
-  outputs-agrees : (k x : ℕ) → Agrees (afterwards (byte 13) (writesOutputs k x) a t) (answer (passed (Write k (WriteOutputs x))) c a .state)
+  outputs-agrees : (k x : ℕ) → 203 ≤ k → k ≤ 206 → Agrees (afterwards (byte 13) (writesOutputs k x) a t) (answer (passed (Write k (WriteOutputs x))) c a .state)
   unfolding afterwards answer writing write toldWire toldRun
-  outputs-agrees k x =
-      run-agrees _ _ (wrote-agrees k) _ _ _ _ (ap (λ (r : Run). withOutputs (withOutputByte k x (r .outputs)) r) (g .run)) (g .paused)
+  outputs-agrees k x lo hi =
+      run-agrees _ _ (wrote-agrees k) _ _ _ _
+      (ap (λ (r : Run). withOutputs (withOutputByte k x (r .outputs)) r) (g .run) ∙ ap (λ w. withOutputs w (t .run)) (with-byte k x (t .run .outputs) lo hi))
+      (g .paused)
 
   parameter-agrees : (v : ℕ) → Agrees (afterwards (byte 13) (writesParameter v) a t) (answer (passed (Write 209 (WriteParameter v))) c a .state)
   unfolding afterwards answer writing write toldWire toldPanel
@@ -110,7 +112,7 @@ module _ (t : Told) (c : Controller) (a : Areas) (g : Agrees t c) where
   command-agrees r s (anError e) = error-agrees e
   command-agrees r s (aRead k le) = read-agrees k
   command-agrees r s (aLine k l le fits) = line-agrees k l fits
-  command-agrees r s (anOutput k x lo hi) = outputs-agrees k x
+  command-agrees r s (anOutput k x lo hi) = outputs-agrees k x lo hi
   command-agrees r s (aParameter v) = parameter-agrees v
   command-agrees r s (aSpecial x) = special-agrees x
 

@@ -8,9 +8,8 @@ use lib.Dec.{eqb}
 use Rattle.formats.specs.Checks.{if_then_else_, Res, refused, passed}
 use Rattle.lines.specs.declared.Line.{Line}
 use Rattle.log.specs.declared.Log.{Log}
-use Rattle.lines.specs.Line.{setBy, readLine, bytesOf}
+use Rattle.lines.specs.Line.{setBy, readLine, bytesOf, Fits}
 use Rattle.lines.specs.Program.{lineAt}
-use Rattle.lines.proofs.Lines.{Fits}
 use Rattle.running.specs.declared.Run.{Run}
 use Rattle.running.specs.declared.Ran.{Ran}
 use Rattle.running.specs.Running.{withOutputs}

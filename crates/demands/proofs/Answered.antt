@@ -2,7 +2,7 @@
 -- call ends. The box checks its callers itself. A refused call changes only what document 01 says it changes."
 -- Every call has an outcome because `call` is a function; here is what the outcome is where something is refused.
 -- Assumes nothing.
-use mathlib.Core.Path.{_≡_, refl, ap, _∙_}
+use mathlib.Core.Path.{_≡_, refl, sym, ap, subst, _∙_}
 use Prim.Native.Nat.{ℕ}
 use mathlib.Core.Logic.{_≢_}
 use mathlib.Core.Bool.{false}
@@ -12,7 +12,7 @@ use Rattle.controller.specs.declared.Controller.{Controller}
 use Rattle.controller.specs.Controller.{Areas, fresh}
 use Rattle.controller.specs.Refusals.{Call, powerOn}
 use Rattle.controller.specs.Effects.{isPowerOn}
-use Rattle.controller.specs.Calls.{call}
+use Rattle.controller.specs.Calls.{After, call}
 use Rattle.controller.specs.Invariant.{Invariant}
 use Rattle.controller.proofs.Invariant.{fresh-invariant, call-invariant}
 use Rattle.controller.proofs.Refusals.{refused-call, unpowered-refuses}
@@ -48,11 +48,14 @@ fresh-length : (n : ℕ) → fresh n .log .length ≡ n
 unfolding fresh emptied
 fresh-length n = refl
 
--- A refused power-on returns the power-on state with a log length of 0, and loads nothing.
-pub refused-power-on : (c : Controller) (a : Areas) → call powerOn c a .refusal ≢ 0
-    → call powerOn c a ≡ record { state = fresh 0; refusal = call powerOn c a .refusal; lines = 0; written = 0; areas = a }
-refused-power-on c a ne = refused-call powerOn c a ne
-
--- And every later call on it is refused, until a power-on.
-pub refused-after-it : (k : Call) (a : Areas) → isPowerOn k ≡ false → call k (fresh 0) a .refusal ≢ 0
-refused-after-it k a other = unpowered-refuses k (fresh 0) a other (fresh-length 0)
+-- A refused power-on loads nothing, and every later call on the state that it returns is refused, until a power-on.
+pub refused-power-on : (c : Controller) (a : Areas) → call powerOn c a .refusal ≢ 0 → let r = call powerOn c a in
+    (r .lines ≡ 0) × (r .written ≡ 0) × (r .areas ≡ a) × ((k : Call) (b : Areas) → isPowerOn k ≡ false → call k (r .state) b .refusal ≢ 0)
+refused-power-on c a ne =
+    let is = refused-call powerOn c a ne in (
+      ap (λ (r : After). r .lines) is,
+      ap (λ (r : After). r .written) is,
+      ap (λ (r : After). r .areas) is,
+      λ k b other.
+          subst (λ s. call k s b .refusal ≢ 0) (sym (ap (λ (r : After). r .state) is)) (unpowered-refuses k (fresh 0) b other (fresh-length 0)),
+    )

@@ -31,6 +31,7 @@ use Rattle.reader.specs.Layout as Layout
 use Rattle.reader.specs.Possible as Possible
 use Rattle.reader.specs.Words as Words
 use Rattle.demands.specs.Histories as Histories
+use Rattle.demands.specs.Capitals as Capitals
 use Rattle.demands.specs.Told as Told
 use Rattle.demands.specs.ReadBack as ReadBack
 use Rattle.demands.specs.Undisturbed as Undisturbed
@@ -39,7 +40,7 @@ use Rattle.demands.specs.Premises as Premises
 use Rattle.demands.specs.Applying as Applying
 use Rattle.demands.specs.FirstSteps.{hasWritten}
 use Rattle.demands.specs.Applying.{failing, runs, endsSo, firstBy, logs, lend, Script, testsOf}
-use Rattle.demands.specs.Applying.{back, running, unpausing, ending, firstRead, firstWrite, logging, listing, oneRead, missing}
+use Rattle.demands.specs.Applying.{back, running, unpausing, ending, firstRead, firstWrite, logging, listing, oneRead}
 use Rattle.demands.specs.Scripts.{scripts}
 use Rattle.demands.proofs.Walked.{AllTrue, true-front, EachPasses, each-passes}
 use Rattle.demands.proofs.BackApplies.{BackSo, back-applies}
@@ -51,23 +52,21 @@ use Rattle.demands.proofs.FirstApplies.{
   first-write-applies,
   ReadSo,
   read-applies,
-  MissingSo,
-  missing-applies,
 }
 use Rattle.demands.proofs.LogsApply.{LogsSo, logs-apply, ListsSo, lists-apply}
 
 -- On each history the premises hold, and what is seen is what the theorems say of it.
 pub scripts-pass : failing 1 scripts ≡ []
 unfolding failing scripts Applying.failingOf Premises.counted Applying.readsBack Applying.begins Applying.runs Applying.endsSo Applying.atOnce
-    Applying.pausesNot Applying.firstBy Applying.logs Applying.lend Applying.reads Applying.noSuch ReadBack.isReplaced Undisturbed.isBroken
-    Undisturbed.counts Undisturbed.isPausing Walks.asksOf Walks.refusalsOf Walks.writtenOf Walks.nextBy Walks.noteBy Walks.wentOn Walks.moment Walks.trail
-    Walks.writtenIn Walks.isAsSaid Histories.outcome Told.said Told.afterwards Told.tell Checks._>>=_ Checks._>>_ Checks._orElse_ Checks.text Digits.digits
-    Digits.numberAfter Digits.shown Digits.numberIn Digits.hIn Digits.dIn Digits.errorText Bytes.placed Line.readLine Line.bytesOf Program.lineAt
-    Program.firstNext Program.nextAfter Text.lineText Text.counterIn Text.stateIn Text.forIn Text.nextIn Text.lineIn Running.stopped Running.onward
-    Running.runLine Running.step Running.runDue Running.start Running.tick Running.ticks Report.report Report.reportTo DLines.firstOf DLines.someBefore
-    Loops.endLine Loops.nextOf Loops.counterAt Loops.isInside Loops.crosses Loops.startsInOwn Loops.lacksNext Loops.lacksFor Loops.isTangled
-    Loops.endsInside Ticks.past Ticks.summed Ticks.runTicks Ticks.idlesAt Ticks.idles Ticks.hasBad Reading.ownWords Reading.isChangeRecord Reading.isGap
-    Reading.joins Reading.canHold Reading.mayFollow Reading.isPossible Reading.mayStand Reading.readAfter Reading.readingAs Reading.changesIn
+    Applying.pausesNot Applying.firstBy Applying.logs Applying.lend Applying.reads ReadBack.isReplaced Undisturbed.isBroken Undisturbed.counts
+    Undisturbed.isPausing Walks.asksOf Walks.refusalsOf Walks.writtenOf Walks.nextBy Walks.noteBy Walks.wentOn Walks.moment Walks.trail Walks.writtenIn
+    Walks.isAsSaid Histories.outcome Told.withByte Told.said Told.afterwards Told.tell Capitals.countsAs Checks._>>=_ Checks._>>_ Checks._orElse_ Checks.text
+    Digits.digits Digits.numberAfter Digits.shown Digits.numberIn Digits.hIn Digits.dIn Digits.errorText Bytes.placed Line.readLine Line.bytesOf
+    Program.lineAt Program.firstNext Program.nextAfter Text.lineText Text.counterIn Text.stateIn Text.forIn Text.nextIn Text.lineIn Running.stopped
+    Running.onward Running.runLine Running.step Running.runDue Running.start Running.tick Running.ticks Report.report Report.reportTo DLines.firstOf
+    DLines.someBefore Loops.endLine Loops.nextOf Loops.counterAt Loops.isInside Loops.crosses Loops.startsInOwn Loops.lacksNext Loops.lacksFor
+    Loops.isTangled Loops.endsInside Ticks.past Ticks.summed Ticks.runTicks Ticks.idlesAt Ticks.idles Ticks.hasBad Reading.ownWords Reading.isChangeRecord
+    Reading.isGap Reading.joins Reading.canHold Reading.mayFollow Reading.isPossible Reading.mayStand Reading.readAfter Reading.readingAs Reading.changesIn
     Layout.layoutOf Layout.recordIn Possible.inOneByte Possible.leadsTo Words.isOutsideGap Record.recordOf Record.changeRecord Record.gapRecord
     Log.addChange Log.records Log.emptied Collecting.collect Collecting.sent Special.forbidden Special.specialOf Command.addressIn Command.specialIn
     Command.dataIn Command.readCommand Command.writeCommand Command.commandIn Command.command Controller.fresh Variables.lineOf Variables.isBadAt
@@ -89,7 +88,6 @@ Applies (firstWrite line x) = FirstWriteSo x line
 Applies (logging x) = LogsSo x
 Applies (listing x) = LogsSo x × ListsSo x
 Applies (oneRead x) = ReadSo x
-Applies (missing x) = MissingSo x
 
 -- They have them from the premises alone, which are the tests that the script passes.
 pub applies : (s : Script) → AllTrue (testsOf s) → Applies s
@@ -104,7 +102,6 @@ applies (firstWrite line x) e =
 applies (logging x) e = logs-apply x e
 applies (listing x) e = let two = true-front (logs x) (lend x) e in (logs-apply x (two .0), lists-apply x (two .0) (two .1))
 applies (oneRead x) e = read-applies x e
-applies (missing x) e = missing-applies x e
 
 abbrev pub EachApplies : List Script → Type 0
 EachApplies [] = Unit {0}

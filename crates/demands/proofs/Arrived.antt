@@ -8,23 +8,24 @@ use mathlib.Core.List.{List, _++_}
 use lib.ListN.{length, length-append, length-map}
 use borrow.Author.Tests.{le-ltb}
 use Rattle.formats.specs.Checks.{_>>=_, text}
-use Rattle.formats.proofs.Characters.{length-shown}
 use Rattle.lines.specs.declared.Line.{Line}
 use Rattle.texts.specs.Text.{lineText}
 use Rattle.texts.proofs.Texts.{text-length}
 use Rattle.variables.specs.declared.Panel.{Panel}
 use Rattle.variables.specs.Variables.{isBadAt}
-use Rattle.wire.specs.Collecting.{mostChars, capital, sent}
+use Rattle.wire.specs.Collecting.{mostChars, sent}
 use Rattle.wire.specs.Command.{command, commandIn}
-use Rattle.wire.specs.Naming.{Names, byDigits, byI, byD}
+use Rattle.wire.specs.Naming.{Names}
 use Rattle.controller.specs.declared.Controller.{Controller}
 use Rattle.controller.specs.Controller.{mode}
 use Rattle.controller.specs.Deeds.{legible, asked}
+use Rattle.demands.specs.Capitals.{countsAs}
 use Rattle.demands.specs.Told.{Told}
 use Rattle.demands.specs.ReadBack.{Arrives}
-use Rattle.demands.specs.Replies.{checksOf, commandOf, panelOf}
+use Rattle.demands.proofs.Asked.{checksOf, commandOf, panelOf}
 use Rattle.demands.proofs.Collects.{sent-whole}
 use Rattle.demands.proofs.Agrees.{Agrees}
+use Rattle.demands.proofs.Sentences.{named-few}
 
 -- the panel is what the history says
 pub panel-as-told : (t : Told) (c : Controller) → Agrees t c → c .panel ≡ panelOf t
@@ -48,27 +49,20 @@ module _ (t : Told) (c : Controller) (g : Agrees t c) (command : List ℕ) (arri
   -- one of at most 32 characters is not overlong
   pub arrives-short : length command ≤ mostChars → c .wire .overlong ≡ false
   arrives-short few =
-      let l : length command ≡ length (t .received) = sym (ap (λ (cs : List ℕ). length cs) arrived) ∙ length-map (t .received) capital in
+      let l : length command ≡ length (t .received) = sym (ap (λ (cs : List ℕ). length cs) arrived) ∙ length-map (t .received) countsAs in
       g .wire .received .more ∙ le-ltb mostChars (length (t .received)) (omega arith)
 
   -- and then it is found as it arrived
   pub arrives-sent : c .wire .overlong ≡ false → sent (c .wire) ≡ command
   arrives-sent short = sent-whole (t .received) (c .wire) (g .wire .received) short ∙ arrived
 
--- an address takes at most three characters
-pub named-length : {next k : ℕ} {a : List ℕ} → Names next k a → length a ≤ 3
-unfolding text
-named-length {k} (byDigits e) = rw (e, length-shown 10 3 k) (omega arith)
-named-length (byI e n) = rw e (omega arith)
-named-length (byD e n) = rw e (omega arith)
-
 pub read-length : {next k : ℕ} {a : List ℕ} → Names next k a → length (text "CR" ++ a) ≤ mostChars
 unfolding text
-read-length {a} n = let l = named-length n in omega arith
+read-length {a} n = let l = named-few n in omega arith
 
 pub write-length : {next k : ℕ} {a : List ℕ} (l : Line) → Names next k a → length (text "CW" ++ (a ++ lineText l)) ≤ mostChars
 unfolding text
 write-length {a} l n =
-    let b = named-length n in
+    let b = named-few n in
     let e = length-append a (lineText l) in
     omega (arith, text-length l)

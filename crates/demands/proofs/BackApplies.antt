@@ -16,7 +16,7 @@ use Rattle.demands.specs.ReadBack.{Arrives, isReplaced}
 use Rattle.demands.specs.Walks.{asksOf, setOut, madeOf, Trail}
 use Rattle.demands.specs.Premises.{copy, goes, _behind_, oneMore, end}
 use Rattle.demands.specs.Applying.{Back, readsBack}
-use Rattle.demands.proofs.AsTold.{held-as-told}
+use Rattle.demands.proofs.Telling.{held-as-told}
 use Rattle.demands.proofs.Walked.{
   calls,
   Reached,
@@ -35,7 +35,8 @@ use Rattle.demands.proofs.Walked.{
   nth,
   holds-at,
 }
-use Rattle.demands.proofs.ReadsBack.{written-line, reads-back, line-accepted}
+use Rattle.demands.proofs.LinesHeld.{written-line}
+use Rattle.demands.proofs.ReadsBack.{reads-back, line-accepted}
 
 -- ---- read-back
 

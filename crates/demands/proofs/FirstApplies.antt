@@ -1,37 +1,30 @@
--- Promises that apply, single commands: a script that passes its tests meets the premises of `FirstSteps`, of `Unnamed` and of `BadLines.bad-read`.
+-- Promises that apply, single commands: a script that passes its tests meets the premises of `FirstSteps` and of `BadLines.bad-read`.
 -- Assumes nothing.
-use mathlib.Core.Path.{_≡_, refl, sym, ap, subst, _∙_}
-use mathlib.Core.Logic.{inl, inr}
-use mathlib.Core.Bool.{Bool, true, false, _&&_}
-use mathlib.Core.List.{List, [], _∷_, _++_, append-assoc, head-eq-of-cons-eq}
-use Prim.Native.Nat.{ℕ, _≤_}
-use native.Mathlib.Omega.{arith}
+use mathlib.Core.Path.{_≡_, sym, ap, subst, _∙_}
+use mathlib.Core.Bool.{Bool, true, false}
+use mathlib.Core.List.{List, [], _∷_, _++_, append-assoc}
+use Prim.Native.Nat.{ℕ}
 use Prim.Native.String.{String}
-use lib.ListN.{length}
 use lib.Dec.{leb}
 use borrow.Author.Tests.{leb-true, not-true}
 use Rattle.formats.specs.Checks.{text, same}
 use Rattle.formats.specs.Digits.{errorText}
-use Rattle.formats.proofs.Checks.{both-true, either-true, same-equal}
-use Rattle.formats.proofs.Characters.{length-shown}
+use Rattle.formats.proofs.Checks.{same-equal}
 use Rattle.lines.specs.Line.{isBad}
 use Rattle.lines.specs.Program.{lineAt}
 use Rattle.lines.proofs.Lines.{is-bad}
 use Rattle.texts.specs.Text.{lineText}
-use Rattle.texts.proofs.Texts.{Sent}
-use Rattle.wire.specs.Collecting.{mostChars}
-use Rattle.wire.specs.Naming.{Names, byDigits, byI, byD, IsStep, NamesNone}
-use Rattle.wire.proofs.Addresses.{none-before}
+use Rattle.texts.specs.Text.{Sent}
 use Rattle.controller.specs.Controller.{Areas}
 use Rattle.controller.specs.Deeds.{ended}
 use Rattle.demands.specs.Histories.{Made, ending, powering, unpowered, after}
-use Rattle.demands.specs.Seen.{isTaken, reply, seen, Note, notes}
+use Rattle.demands.specs.Seen.{reply, seen, Note, notes}
 use Rattle.demands.specs.Told.{Told, told, Never}
-use Rattle.demands.specs.ReadBack.{Arrives}
+use Rattle.demands.specs.ReadBack.{Arrives, ReadOf}
 use Rattle.demands.specs.FirstSteps.{hasRead, hasWritten}
 use Rattle.demands.specs.Walks.{Act, asksOf, setOut, madeOf, Trail}
-use Rattle.demands.specs.Premises.{copy, goes, _behind_, oneMore, powersAt, end, never, arrives, namesNone}
-use Rattle.demands.specs.Applying.{First, firstBy, Reads, reads, NoSuch, noSuch}
+use Rattle.demands.specs.Premises.{copy, goes, _behind_, oneMore, powersAt, end, never}
+use Rattle.demands.specs.Applying.{First, firstBy, Reads, reads}
 use Rattle.demands.proofs.Walked.{
   calls,
   Reached,
@@ -50,7 +43,6 @@ use Rattle.demands.proofs.Walked.{
 }
 use Rattle.demands.proofs.FirstSteps.{first-read, first-accepted, first-write, no-read-before, no-write-before}
 use Rattle.demands.proofs.BadLines.{bad-read}
-use Rattle.demands.proofs.Unnamed.{no-such-read, no-such-write}
 
 -- ---- the first address after a power-on
 
@@ -164,8 +156,7 @@ module _ (x : Reads) where
   -- what `reads-as-told` asks of a read, and what `bad-read` says
   abbrev pub ReadSo : Type 0
   ReadSo =
-      Arrives (told readBefore) (text "CR" ++ text (x .address)) × Names (told readBefore .nextRead) (x .k) (text (x .address))
-      × (isTaken (seen readBefore (ending areasThen)) ≡ true) × (x .isOnBad ≡ true → reply (seen readBefore (ending areasThen)) ≡ ended (errorText 24))
+      ReadOf readBefore (x .k) areasThen × (x .isOnBad ≡ true → reply (seen readBefore (ending areasThen)) ≡ ended (errorText 24))
 
   module _ (ok : AllTrue (reads x)) where
     read-at : (i : ℕ) → nth i (reads x) ≡ true
@@ -174,69 +165,16 @@ module _ (x : Reads) where
     pub read-applies : ReadSo
     unfolding reads
     read-applies =
-        let arrived = arrives-reached at-one _ (read-at 0) in
-        let named = read-named at-one (x .k) _ (read-at 1) in
-        let taken = taken-so at-one end (read-at 4) in (
-          arrived,
-          named,
-          taken,
+        let read : ReadOf readBefore (x .k) areasThen =
+        record {
+          address = text (x .address);
+          arrived = arrives-reached at-one _ (read-at 0);
+          named = read-named at-one (x .k) _ (read-at 1);
+          taken = taken-so at-one end (read-at 4);
+        } in (
+          read,
           λ is.
               let le : leb (x .k) 199 ≡ true = rw is at (read-at 2) in
               let bad : isBad (lineAt (goes (x .before) .last .held .program) (x .k)) ≡ true = rw is at (read-at 3) in
-              bad-read readBefore areasThen (text (x .address)) arrived taken (x .k) (leb-true _ _ le) named (is-bad _ bad),
+              bad-read readBefore areasThen (x .k) (leb-true _ _ le) read (is-bad _ bad),
         )
-
--- ---- no such address
-
-none-after : (next : ℕ) → 217 ≤ next → NamesNone next (text "I")
-unfolding text
-none-after next many k le (byDigits d) = let n : _≡_ {A = ℕ} 1 3 = ap length d ∙ length-shown 10 3 k in omega arith
-none-after next many k le (byI i n) = omega arith
-none-after next many k le (byD d n) = let z : _≡_ {A = ℕ} 73 68 = head-eq-of-cons-eq d in omega arith
-
-none-so : (next : ℕ) (c : List ℕ) → namesNone next c ≡ true → IsStep c × NamesNone next c
-none-so next c e =
-    either-true (same c (text "I") && leb 217 next) (same c (text "D") && leb next 1) e
-    (λ f. let two = both-true (same c (text "I")) (leb 217 next) f in
-    let is = same-equal c (text "I") (two .0) in
-    (inl is, subst (NamesNone next) (sym is) (none-after next (leb-true 217 next (two .1))))) λ f.
-    let two = both-true (same c (text "D")) (leb next 1) f in
-    let is = same-equal c (text "D") (two .0) in
-    (inr is, subst (NamesNone next) (sym is) (none-before next (leb-true next 1 (two .1))))
-
-module _ (x : NoSuch) where
-  abbrev missBefore : List Made
-  missBefore = calls (setOut copy) (asksOf (x .before))
-
-  at-miss : Reached missBefore (goes (x .before) .last)
-  at-miss = reached-more (reached-none copy) (asksOf (x .before))
-
-  abbrev areasMissing : Areas
-  areasMissing = madeOf end (goes (x .before) .last) .areas
-
-  -- what `no-such-read` and `no-such-write` say
-  abbrev pub MissingSo : Type 0
-  MissingSo = reply (seen missBefore (ending areasMissing)) ≡ ended (errorText 4)
-
-  pub missing-applies : AllTrue (noSuch x) → MissingSo
-  unfolding noSuch
-  missing-applies ok = go (x .isRead) refl
-    where
-      t : (i : ℕ) → nth i (noSuch x) ≡ true
-      t = holds-at (noSuch x) ok
-
-      go : (c : Bool) → x .isRead ≡ c → MissingSo
-      go true e =
-          let few : leb (length (text "CR" ++ (text (x .address) ++ text (x .left)))) mostChars ≡ true = rw e at (t 0) in
-          let here : arrives (goes (x .before) .last .told) (text "CR" ++ (text (x .address) ++ text (x .left))) ≡ true = rw e at (t 1) in
-          let none : namesNone (goes (x .before) .last .told .nextRead) (text (x .address)) ≡ true = rw e at (t 2) in
-          let two = none-so _ _ none in
-          no-such-read missBefore areasMissing (taken-so at-miss end (t 3)) (text (x .address)) (text (x .left)) (two .0) (leb-true _ _ few)
-          (arrives-reached at-miss _ here) (subst (λ (y : Told). NamesNone (y .nextRead) (text (x .address))) (sym (at-miss .told)) (two .1))
-      go false e =
-          let few : leb (length (text "CW" ++ (text (x .address) ++ text (x .left)))) mostChars ≡ true = rw e at (t 0) in
-          let here : arrives (goes (x .before) .last .told) (text "CW" ++ (text (x .address) ++ text (x .left))) ≡ true = rw e at (t 1) in
-          let none : namesNone (goes (x .before) .last .told .nextWrite) (text (x .address)) ≡ true = rw e at (t 2) in
-          let two = none-so _ _ none in
-          no-such-write missBefore areasMissing (taken-so at-miss end (t 3)) (text (x .address)) (text (x .left)) (two .0) (leb-true _ _ few)
-          (arrives-reached at-miss _ here) (subst (λ (y : Told). NamesNone (y .nextWrite) (text (x .address))) (sym (at-miss .told)) (two .1))

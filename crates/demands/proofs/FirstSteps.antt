@@ -5,8 +5,8 @@ use mathlib.Core.Path.{_≡_, refl, sym, ap, _∙_}
 use mathlib.Core.Logic.{inr}
 use Prim.Native.Nat.{ℕ, _≤_}
 use native.Mathlib.Omega.{arith}
-use mathlib.Core.Bool.{Bool, true, false, not, _&&_}
-use mathlib.Core.List.{List, [], _∷_, _++_, map}
+use mathlib.Core.Bool.{Bool, true, false, not, _&&_, true≢false}
+use mathlib.Core.List.{List, [], _∷_, _++_}
 use lib.ListN.{length}
 use lib.Dec.{eqb, leb}
 use borrow.Author.Tests.{not-false}
@@ -15,13 +15,11 @@ use Rattle.formats.specs.Digits.{errorText}
 use Rattle.formats.proofs.Checks.{if-case, both-false}
 use Rattle.lines.specs.declared.Line.{Line}
 use Rattle.lines.specs.declared.Line.the-variants.{Bad}
-use Rattle.lines.specs.Line.{isBad}
+use Rattle.lines.specs.Line.{isBad, Fits}
 use Rattle.lines.specs.Program.{lineAt}
-use Rattle.lines.proofs.Lines.{Fits}
-use Rattle.texts.specs.Text.{lineText}
-use Rattle.texts.proofs.Texts.{Sent}
+use Rattle.texts.specs.Text.{lineText, Sent}
 use Rattle.variables.specs.Variables as Variables
-use Rattle.wire.specs.Collecting.{mostChars, capital}
+use Rattle.wire.specs.Collecting.{mostChars}
 use Rattle.wire.specs.Command.{isRead, addressIn, rest}
 use Rattle.wire.specs.Naming.{byI}
 use Rattle.wire.proofs.Addresses.{none-before}
@@ -29,18 +27,20 @@ use Rattle.controller.specs.Controller.{Areas}
 use Rattle.controller.specs.Deeds.{ended}
 use Rattle.controller.specs.Refusals.{Call}
 use Rattle.controller.specs.Effects.{isEnd, isPowerOn}
-use Rattle.demands.specs.Histories.{ending, powering, Made, unpowered, next, after}
+use Rattle.demands.specs.Capitals.{inCapitals}
+use Rattle.demands.specs.Histories.{ending, powering, Made, unpowered, next, after, poweredOn, sincePowerOn}
 use Rattle.demands.specs.Seen.{isTaken, reply, seen, isError, Note, notes}
 use Rattle.demands.specs.Said.{Said, silence, got, wrote, spoken}
 use Rattle.demands.specs.Told.{Told, powered, said, nextReadThen, nextWriteThen, afterwards, tell, tellAll, told, Never}
+use Rattle.demands.specs.Shown.{shownOf}
+use Rattle.demands.specs.Commands.{noAddress}
 use Rattle.demands.specs.ReadBack.{Arrives}
 use Rattle.demands.specs.FirstSteps.{isAnswered, hasRead, hasWritten, Unread, Unwritten}
-use Rattle.demands.proofs.AsTold.{held-as-told}
-use Rattle.demands.proofs.Telling.{tell-power-on, told-more}
-use Rattle.demands.proofs.Replies.{reads-as-told}
-use Rattle.demands.proofs.Unnamed.{no-such-read, no-such-write}
-use Rattle.demands.proofs.BadLines.{bad-read}
-use Rattle.demands.proofs.ReadsBack.{written-line, line-accepted}
+use Rattle.demands.proofs.Telling.{tell-power-on, told-more, held-as-told}
+use Rattle.demands.proofs.Written.{no-read-first, no-write-first}
+use Rattle.demands.proofs.Replies.{reads-as-told, error-answered}
+use Rattle.demands.proofs.LinesHeld.{written-line}
+use Rattle.demands.proofs.ReadsBack.{line-accepted}
 
 -- ---- what the history says
 
@@ -52,7 +52,7 @@ wrote-leaves c j cs a t =
 
 -- what no command answered without an error moves, stays: here `next` is what I means in one direction, after what was said
 module _ (t : Told) (n : Note) (next : Said → ℕ) (still : next silence ≡ 0) where
-  heard-still : isTaken (n .seen) ≡ true → (isAnswered n ≡ true → next (spoken (t .nextRead) (t .nextWrite) (map capital (t .received))) ≡ 0)
+  heard-still : isTaken (n .seen) ≡ true → (isAnswered n ≡ true → next (spoken (t .nextRead) (t .nextWrite) (inCapitals (t .received))) ≡ 0)
       → next (said t n) ≡ 0
   unfolding said
   heard-still ok moved = if-case (λ s. next s ≡ 0) (isEnd (n .call) && not (isError (reply (n .seen)))) (λ e. moved (rw (ok, e))) λ _. still
@@ -63,7 +63,7 @@ read-kept t n u e =
     if-case (λ (x : Told). x .nextRead ≡ 0) (isPowerOn (n .call)) (λ _. refl) λ _.
     if-case (λ (x : Told). x .nextRead ≡ 0) (isTaken (n .seen))
     (λ ok. heard-still t n (λ s. nextReadThen (n .call) s (n .lent) t) e ok λ ans.
-    let cs = map capital (t .received) in
+    let cs = inCapitals (t .received) in
     rw (both-false _ _ ans u) (wrote-leaves (n .call) (got 0 (addressIn (t .nextWrite) cs)) (rest cs) (n .lent) t ∙ e)) λ _. e
 
 write-kept : (t : Told) (n : Note) → hasWritten t n ≡ false → t .nextWrite ≡ 0 → tell t n .nextWrite ≡ 0
@@ -72,7 +72,7 @@ write-kept t n u e =
     if-case (λ (x : Told). x .nextWrite ≡ 0) (isPowerOn (n .call)) (λ _. refl) λ _.
     if-case (λ (x : Told). x .nextWrite ≡ 0) (isTaken (n .seen))
     (λ ok. heard-still t n (λ s. nextWriteThen (n .call) s (n .lent) t) e ok λ ans.
-    rw (not-false (isRead (map capital (t .received))) (both-false _ _ ans u)) e) λ _. e
+    rw (not-false (isRead (inCapitals (t .received))) (both-false _ _ ans u)) e) λ _. e
 
 -- of either direction: what one call keeps is kept by all
 module _ (direction : Told → ℕ) (moves : Told → Note → Bool)
@@ -84,65 +84,71 @@ module _ (direction : Told → ℕ) (moves : Told → Note → Bool)
 
 -- the calls `before`, a power-on, and calls after it
 module _ (before later : List Made) (a : Areas) where
-  abbrev powered-on : List Made
-  powered-on = before ++ (powering a ∷ [])
-
-  abbrev by-now : List Made
-  by-now = powered-on ++ later
-
-  at-power-on : (n : ℕ) × (told powered-on ≡ powered n)
+  at-power-on : (n : ℕ) × (told (poweredOn before a) ≡ powered n)
   unfolding notes tellAll
   at-power-on = (_, told-more before (powering a ∷ []) ∙ tell-power-on (told before) (after unpowered before) (powering a) refl)
 
   -- none of which is a read that is answered without an error
-  module _ (unread : Unread (told powered-on) (notes (after unpowered powered-on) later)) where
-    reads-from : told by-now .nextRead ≡ 0
+  module _ (unread : Unread (told (poweredOn before a)) (notes (after unpowered (poweredOn before a)) later)) where
+    reads-from : told (sincePowerOn before a later) .nextRead ≡ 0
     reads-from =
-        ap (λ (t : Told). t .nextRead) (told-more powered-on later)
+        ap (λ (t : Told). t .nextRead) (told-more (poweredOn before a) later)
         ∙ all-kept (λ (t : Told). t .nextRead) hasRead read-kept _ _ unread (ap (λ (t : Told). t .nextRead) (at-power-on .1))
 
     -- "I then means 000": the reply is the text of line 000 of the program lent, or E024 where that line is Bad.
-    pub first-read : (b : Areas) → Arrives (told by-now) (text "CR" ++ text "I") → isTaken (seen by-now (ending b)) ≡ true
-        → (isBad (lineAt (b .program) 0) ≡ false → reply (seen by-now (ending b)) ≡ ended (lineText (lineAt (b .program) 0)))
-        × (lineAt (b .program) 0 ≡ Bad → reply (seen by-now (ending b)) ≡ ended (errorText 24))
-    unfolding Variables.value Variables.isBadAt Variables.lineOf
-    first-read b arrived taken = (
-      λ good. reads-as-told by-now b 0 (omega arith) (text "I") arrived (byI refl (sym reads-from)) taken .0 good .0,
-      bad-read by-now b (text "I") arrived taken 0 (omega arith) (byI refl (sym reads-from)),
-    )
+    pub first-read : (b : Areas) → Arrives (told (sincePowerOn before a later)) (text "CR" ++ text "I")
+        → isTaken (seen (sincePowerOn before a later) (ending b)) ≡ true
+        → (isBad (lineAt (b .program) 0) ≡ false
+        → reply (seen (sincePowerOn before a later) (ending b)) ≡ ended (lineText (lineAt (b .program) 0)))
+        × (lineAt (b .program) 0 ≡ Bad → reply (seen (sincePowerOn before a later) (ending b)) ≡ ended (errorText 24))
+    unfolding shownOf
+    first-read b arrived taken =
+        let r = reads-as-told (sincePowerOn before a later) b 0 (omega arith)
+        (record { address = text "I"; arrived = arrived; named = byI refl (sym reads-from); taken = taken }) in
+        (λ good. r .0 λ _ bad. true≢false (sym (ap isBad bad) ∙ good), r .1 (omega arith))
 
     -- "D is E004", whatever stands behind it; a command of more than 32 characters is E002 by an earlier check.
     pub no-read-before : (b : Areas) (more : List ℕ) → let command = text "CR" ++ (text "D" ++ more) in
-        length command ≤ mostChars → Arrives (told by-now) command → isTaken (seen by-now (ending b)) ≡ true
-        → reply (seen by-now (ending b)) ≡ ended (errorText 4)
+        length command ≤ mostChars → Arrives (told (sincePowerOn before a later)) command → isTaken (seen (sincePowerOn before a later) (ending b)) ≡ true
+        → reply (seen (sincePowerOn before a later) (ending b)) ≡ ended (errorText 4)
     no-read-before b more few arrived taken =
-        no-such-read by-now b taken (text "D") more (inr refl) few arrived (none-before _ (rw reads-from (omega arith)))
+        error-answered (sincePowerOn before a later) b taken noAddress
+        (no-read-first (told (sincePowerOn before a later)) (b .program) (text "D") more (inr refl) (omega (arith, reads-from)) (rw arrived few) arrived
+        (none-before _ (rw reads-from (omega arith))))
 
   -- none of which is a write that is answered OK
-  module _ (unwritten : Unwritten (told powered-on) (notes (after unpowered powered-on) later)) where
-    writes-from : told by-now .nextWrite ≡ 0
+  module _ (unwritten : Unwritten (told (poweredOn before a)) (notes (after unpowered (poweredOn before a)) later)) where
+    writes-from : told (sincePowerOn before a later) .nextWrite ≡ 0
     writes-from =
-        ap (λ (t : Told). t .nextWrite) (told-more powered-on later)
+        ap (λ (t : Told). t .nextWrite) (told-more (poweredOn before a) later)
         ∙ all-kept (λ (t : Told). t .nextWrite) hasWritten write-kept _ _ unwritten (ap (λ (t : Told). t .nextWrite) (at-power-on .1))
 
     -- "I then means 000": what is answered OK stands at line 000 of the program area afterwards, the line that was sent.
-    pub first-write : (b : Areas) (line : List ℕ) → Arrives (told by-now) (text "CW" ++ (text "I" ++ line)) → isTaken (seen by-now (ending b)) ≡ true
-        → reply (seen by-now (ending b)) ≡ ended (text "OK") → Sent line (lineAt (seen by-now (ending b) .areas .program) 0)
+    pub first-write : (b : Areas) (line : List ℕ) → Arrives (told (sincePowerOn before a later)) (text "CW" ++ (text "I" ++ line))
+        → isTaken (seen (sincePowerOn before a later) (ending b)) ≡ true
+        → reply (seen (sincePowerOn before a later) (ending b)) ≡ ended (text "OK")
+        → Sent line (lineAt (seen (sincePowerOn before a later) (ending b) .areas .program) 0)
     unfolding seen next Variables.lineOf
     first-write b line arrived taken ok =
-        let h = after unpowered by-now in
-        rw taken at (written-line h (told by-now) (held-as-told by-now) b 0 (text "I") line (omega arith) arrived (byI refl (sym writes-from)) taken ok)
+        let h = after unpowered (sincePowerOn before a later) in
+        rw taken at
+        (written-line h (told (sincePowerOn before a later)) (held-as-told (sincePowerOn before a later)) b 0 (text "I") line (omega arith)
+        arrived (byI refl (sym writes-from)) taken ok)
 
     -- And it is answered OK: a line in its format, where no program runs.
-    pub first-accepted : (b : Areas) (l : Line) → Fits l → Arrives (told by-now) (text "CW" ++ (text "I" ++ lineText l)) → told by-now .run .on ≡ false
-        → isTaken (seen by-now (ending b)) ≡ true
-        → reply (seen by-now (ending b)) ≡ ended (text "OK")
+    pub first-accepted : (b : Areas) (l : Line) → Fits l
+        → Arrives (told (sincePowerOn before a later)) (text "CW" ++ (text "I" ++ lineText l))
+        → told (sincePowerOn before a later) .run .on ≡ false
+        → isTaken (seen (sincePowerOn before a later) (ending b)) ≡ true
+        → reply (seen (sincePowerOn before a later) (ending b)) ≡ ended (text "OK")
     first-accepted b l fits arrived off taken =
-        line-accepted by-now b 0 (omega arith) (text "I") l fits arrived (byI refl (sym writes-from)) off taken
+        line-accepted (sincePowerOn before a later) b 0 (omega arith) (text "I") l fits arrived (byI refl (sym writes-from)) off taken
 
     -- "D is E004", whatever stands behind it
     pub no-write-before : (b : Areas) (more : List ℕ) → let command = text "CW" ++ (text "D" ++ more) in
-        length command ≤ mostChars → Arrives (told by-now) command → isTaken (seen by-now (ending b)) ≡ true
-        → reply (seen by-now (ending b)) ≡ ended (errorText 4)
+        length command ≤ mostChars → Arrives (told (sincePowerOn before a later)) command → isTaken (seen (sincePowerOn before a later) (ending b)) ≡ true
+        → reply (seen (sincePowerOn before a later) (ending b)) ≡ ended (errorText 4)
     no-write-before b more few arrived taken =
-        no-such-write by-now b taken (text "D") more (inr refl) few arrived (none-before _ (rw writes-from (omega arith)))
+        error-answered (sincePowerOn before a later) b taken noAddress
+        (no-write-first (told (sincePowerOn before a later)) (b .program) (text "D") more (inr refl) (omega (arith, writes-from)) (rw arrived few) arrived
+        (none-before _ (rw writes-from (omega arith))))

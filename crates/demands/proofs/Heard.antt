@@ -4,18 +4,18 @@ use mathlib.Core.Path.{_≡_, refl, sym, ap, subst, _∙_}
 use Prim.Native.Nat.{ℕ, _≤_}
 use native.Mathlib.Omega.{arith}
 use mathlib.Core.Bool.{Bool, true, false, true≢false}
-use mathlib.Core.List.{List, map}
+use mathlib.Core.List.{List}
 use lib.ListN.{take}
 use lib.Dec.{eqb}
 use borrow.Author.Tests.{eqb-true, le-leb, lt-leb}
 use Rattle.formats.specs.Checks.{Res, refused, passed, Ok}
 use Rattle.formats.proofs.Checks.{ok-at}
-use Rattle.texts.proofs.Texts.{Sent, accepted-shows}
+use Rattle.texts.specs.Text.{Sent}
+use Rattle.texts.proofs.Texts.{accepted-shows}
 use Rattle.wire.specs.declared.Data.{Data}
 use Rattle.wire.specs.declared.Data.the-variants.{WriteLine, WriteOutputs, WriteParameter, WriteSpecial}
 use Rattle.wire.specs.declared.Asked.{Asked}
 use Rattle.wire.specs.declared.Asked.the-variants.{Read, Write}
-use Rattle.wire.specs.Collecting.{capital}
 use Rattle.wire.specs.Command.{isRead, addressIn, rest}
 use Rattle.wire.specs.Sound.{Sound}
 use Rattle.wire.proofs.Says.{Heard, Spoken, command-says}
@@ -29,6 +29,7 @@ use Rattle.controller.specs.Calls.{After, does}
 use Rattle.controller.specs.Invariant.{Invariant}
 use Rattle.controller.proofs.Lines.{replyOf, answer-written}
 use Rattle.controller.proofs.Legible.{Good, asked-ok, sound-asked, good-asked}
+use Rattle.demands.specs.Capitals.{inCapitals}
 use Rattle.demands.specs.Histories.{ending, Made, Held, outcome, isAccepted}
 use Rattle.demands.specs.Seen.{seenOf, reply, isError, note}
 use Rattle.demands.specs.Said.{silence, reads, wrote, spoken}
@@ -85,24 +86,24 @@ module _ (h : Held) (a : Areas) (t : Told) (g : Agrees t (h .state)) (i : Invari
   reply-no-error (Write k x) f = ap isError (reply-is h a ok ∙ ap (λ r. replyOf r (h .state) a) f) ∙ ok-no-error
 
   accepted-said : (q : Asked) → asked (h .state) (a .program) ≡ passed q
-      → said t (note h (ending a)) ≡ spoken (t .nextRead) (t .nextWrite) (map capital (t .received))
+      → said t (note h (ending a)) ≡ spoken (t .nextRead) (t .nextWrite) (inCapitals (t .received))
   unfolding said note
   accepted-said q f = rw (reply-no-error q f)
 
   -- the command's characters are all that was received
   spoken-hears : (q : Asked) → Spoken (h .state .wire) q → asked (h .state) (a .program) ≡ passed q
-      → Hears (passed q) (spoken (t .nextRead) (t .nextWrite) (map capital (t .received)))
+      → Hears (passed q) (spoken (t .nextRead) (t .nextWrite) (inCapitals (t .received)))
   spoken-hears (Read k) s f =
       let e = sent-whole (t .received) (h .state .wire) (g .wire .received) (s .short) in
       let le : k ≤ 216 = ok-at (Sound (mode (h .state)) (h .state .panel .parameter)) (sound-asked (h .state) (a .program) (i .wire)) f in
       subst (λ x. Hears (passed (Read k)) x)
-      (sym (spoken-read t (map capital (t .received)) k (rw e at (s .says .0)) (rw (e, g .wire .nextRead) at (s .says .1))))
+      (sym (spoken-read t (inCapitals (t .received)) k (rw e at (s .says .0)) (rw (e, g .wire .nextRead) at (s .says .1))))
       (aRead k le)
   spoken-hears (Write k x) s f =
       let e = sent-whole (t .received) (h .state .wire) (g .wire .received) (s .short) in
       subst (λ y. Hears (passed (Write k x)) y)
-      (sym (spoken-write t (map capital (t .received)) k (rw e at (s .says .0)) (rw (e, g .wire .nextWrite) at (s .says .1))))
-      (data-hears k (rest (map capital (t .received))) x (rw e at (s .says .2)))
+      (sym (spoken-write t (inCapitals (t .received)) k (rw e at (s .says .0)) (rw (e, g .wire .nextWrite) at (s .says .1))))
+      (data-hears k (rest (inCapitals (t .received))) x (rw e at (s .says .2)))
 
   -- the characters of what passes
   says : Ok (Spoken (h .state .wire)) (asked (h .state) (a .program))

@@ -1,10 +1,11 @@
 -- Demand 2: what a call leaves of the program area, of the saved copy and of the reply's area.
 -- Assumes nothing.
-use mathlib.Core.Path.{_≡_, refl, sym, ap, _∙_}
+use mathlib.Core.Path.{_≡_, refl, sym, ap, ap₂, _∙_}
 use Prim.Native.Nat.{ℕ}
 use mathlib.Core.Bool.{Bool, true, false, true≢false}
 use mathlib.Core.List.{List, [], _++_}
-use lib.ListN.{length, drop}
+use lib.ListN.{length, take, drop}
+use lib.Seq.{take-at}
 use lib.Dec.{eqb}
 use borrow.Author.Tests.{eqb-true}
 use Rattle.formats.specs.Checks.{if_then_else_, Res, refused, passed, text}
@@ -24,19 +25,17 @@ use Rattle.controller.specs.Refusals.{Call, powerOn, byte, tick, press, emptyin
 use Rattle.controller.specs.Effects.{finished, isEnd, isEmptying, isPowerOn}
 use Rattle.controller.specs.Calls.{After, does}
 use Rattle.demands.specs.Histories.{Made, Held, unpowered, outcome, after}
-use Rattle.demands.specs.Seen.{isTaken, seen, note}
+use Rattle.demands.specs.Seen.{seenOf, isTaken, reply, seen, note}
 use Rattle.demands.specs.Said.{Said, silence, gives}
 use Rattle.demands.specs.Told.{said, told}
-use Rattle.demands.specs.Replies.{answerTo}
 use Rattle.demands.specs.Leaves.{programThen, savedThen}
 use Rattle.demands.proofs.Steps.{Step, passes, fails, stepped}
 use Rattle.demands.proofs.Answered.{invariant-always}
 use Rattle.demands.proofs.Agrees.{Hears, anError, aRead, aLine, anOutput, aParameter, aSpecial}
 use Rattle.demands.proofs.Agreement.{silent}
 use Rattle.controller.proofs.Lines.{replyOf}
-use Rattle.demands.proofs.Replies.{answer-as-told}
 use Rattle.demands.proofs.Heard.{hears}
-use Rattle.demands.proofs.AsTold.{held-as-told}
+use Rattle.demands.proofs.Telling.{held-as-told}
 
 module _ (c : Controller) (a : Areas) where
   -- the areas that were left
@@ -181,26 +180,28 @@ leaves-as-told ms m ok = go (stepped (after unpowered ms) m)
         let l = does-leaves (h .state) (m .areas) (m .call) s (hears h m (told ms) (held-as-told ms) (invariant-always ms) ok) in
         (ap (λ (x : After). x .areas .program) e ∙ l .program, ap (λ (x : After). x .areas .saved) e ∙ l .saved)
 
--- Every call but emptying that is taken writes its reply to the start of its area, returns its length, and leaves the bytes behind it; a call that has none
--- leaves the area. What emptying writes is `emptying-copies`.
-pub answers-as-told : (ms : List Made) (m : Made) → isEmptying (m .call) ≡ false → isTaken (seen ms m) ≡ true
-    → let r = answerTo (m .call) (told ms) (m .areas .program) in
-    (seen ms m .areas .out ≡ r ++ drop (length r) (m .areas .out)) × (seen ms m .written ≡ length r)
+-- Every call but emptying that is taken writes its reply to the start of its area, returns its length, and leaves the bytes behind it; "A byte that
+-- completes no command has a reply of length 0", and so has a call that is no byte. What emptying writes is `emptying-copies`.
+pub answers-as-told : (ms : List Made) (m : Made) → isEmptying (m .call) ≡ false → isTaken (seen ms m) ≡ true → let r = reply (seen ms m) in
+    (seen ms m .areas .out ≡ r ++ drop (length r) (m .areas .out)) × (seen ms m .written ≡ length r) × (isEnd (m .call) ≡ false → r ≡ [])
 unfolding seen
 answers-as-told ms m other ok = go (stepped (after unpowered ms) m)
   where
     h : Held
     h = after unpowered ms
 
-    same : (if isEnd (m .call) then replyOf (asked (h .state) (m .areas .program)) (h .state) (m .areas) else [])
-        ≡ answerTo (m .call) (told ms) (m .areas .program)
-    same = ap (λ r. if isEnd (m .call) then r else []) (answer-as-told (told ms) (h .state) (held-as-told ms) (m .areas))
+    bytes : List ℕ
+    bytes = if isEnd (m .call) then replyOf (asked (h .state) (m .areas .program)) (h .state) (m .areas) else []
 
-    go : Step h m → let r = answerTo (m .call) (told ms) (m .areas .program) in
-        (outcome h m .areas .out ≡ r ++ drop (length r) (m .areas .out)) × (outcome h m .written ≡ length r)
+    go : Step h m → let r = reply (seenOf (outcome h m)) in
+        (outcome h m .areas .out ≡ r ++ drop (length r) (m .areas .out)) × (outcome h m .written ≡ length r) × (isEnd (m .call) ≡ false → r ≡ [])
     go (fails bad n e f) = absurd (true≢false (sym ok ∙ bad))
     go (passes _ ch e f) =
-        let w = does-wrote (h .state) (m .areas) (m .call) other in (
-          ap (λ (x : After). x .areas .out) e ∙ w .out ∙ ap (λ r. r ++ drop (length r) (m .areas .out)) same,
-          ap (λ (x : After). x .written) e ∙ w .written ∙ ap (λ (r : List ℕ). length r) same,
+        let w = does-wrote (h .state) (m .areas) (m .call) other in
+        let out : outcome h m .areas .out ≡ bytes ++ drop (length bytes) (m .areas .out) = ap (λ (x : After). x .areas .out) e ∙ w .out in
+        let written : outcome h m .written ≡ length bytes = ap (λ (x : After). x .written) e ∙ w .written in
+        let is : reply (seenOf (outcome h m)) ≡ bytes = ap₂ (λ n l. take n l) written out ∙ take-at bytes _ (length bytes) refl in (
+          out ∙ ap (λ r. r ++ drop (length r) (m .areas .out)) (sym is),
+          written ∙ ap (λ (r : List ℕ). length r) (sym is),
+          λ none. is ∙ ap (λ b. if b then replyOf (asked (h .state) (m .areas .program)) (h .state) (m .areas) else []) none,
         )

@@ -33,7 +33,7 @@ use Rattle.demands.proofs.Answered.{invariant-always}
 use Rattle.demands.proofs.Agrees.{Agrees, Hears, anError, aRead, aLine, anOutput, aParameter, aSpecial}
 use Rattle.demands.proofs.Agreement.{silent}
 use Rattle.demands.proofs.Heard.{hears}
-use Rattle.demands.proofs.AsTold.{held-as-told}
+use Rattle.demands.proofs.Telling.{held-as-told}
 
 module _ (t : Told) (c : Controller) (a : Areas) (g : Agrees t c) where
   special-lines : (s : Special) → answer (passed (Write 210 (WriteSpecial s))) c a .lines ≡ ran (byte 13) (gives (codeOf s)) a t .lines

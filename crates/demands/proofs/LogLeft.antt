@@ -34,8 +34,7 @@ use Rattle.demands.specs.Changes.{change, sinceCall, since, changes, hel
 use Rattle.demands.proofs.Steps.{deed, Step, passes, fails, stepped, refused-held}
 use Rattle.demands.proofs.Answered.{next-invariant, invariant-always}
 use Rattle.demands.proofs.Agrees.{Agrees}
-use Rattle.demands.proofs.Telling.{fresh-agrees, agrees-next}
-use Rattle.demands.proofs.AsTold.{held-as-told}
+use Rattle.demands.proofs.Telling.{fresh-agrees, agrees-next, held-as-told}
 use Rattle.demands.proofs.Changing.{change-as-told, no-change}
 
 -- ---- what is counted after each call

@@ -3,7 +3,7 @@
 use mathlib.Core.Path.{_≡_, sym, ap, _∙_}
 use Prim.Native.Nat.{ℕ}
 use mathlib.Core.Bool.{true}
-use mathlib.Core.List.{List, [], _∷_, _++_}
+use mathlib.Core.List.{List}
 use lib.ListN.{length, take, drop}
 use lib.Seq.{take-at}
 use lib.Dec.{eqb}
@@ -23,13 +23,12 @@ use Rattle.reader.proofs.Exactly.{produced-layout}
 use Rattle.controller.specs.Controller.{Areas}
 use Rattle.controller.specs.Refusals.{emptying}
 use Rattle.controller.proofs.Refusals.{accepted-call}
-use Rattle.demands.specs.Histories.{Made, powering, emptyingTo, unpowered, outcome, after, HandsOn, AllHandOn}
+use Rattle.demands.specs.Histories.{Made, emptyingTo, unpowered, outcome, after, HandsOn, AllHandOn, poweredOn, sincePowerOn}
 use Rattle.demands.specs.Seen.{isTaken, seen, emptiedBy}
 use Rattle.demands.specs.Told.{told}
 use Rattle.demands.specs.Changes.{changes}
 use Rattle.demands.specs.LentBytes.{lendBytes}
-use Rattle.demands.proofs.AsTold.{held-as-told}
-use Rattle.demands.proofs.LogTells as LogTells
+use Rattle.demands.proofs.Telling.{held-as-told}
 use Rattle.demands.proofs.LogTells.{emptying-tells}
 use Rattle.demands.proofs.Possible.{changes-possible}
 
@@ -44,32 +43,29 @@ emptied-size ms a ok =
     area-size (told ms .logLength) (rw long at (two .0))
 
 -- A power-on after any calls, and any calls after it; from it on the caller hands on both areas, and every lent area holds bytes.
-module _ (before : List Made) (lent : Areas) (ms : List Made) (hands : AllHandOn (after unpowered (before ++ (powering lent ∷ []))) ms) where
-  abbrev now : List Made
-  now = LogTells.now before lent ms hands
-
-  module _ (a : Areas) (hand : HandsOn (after unpowered now) (emptyingTo a)) (ok : isTaken (seen now (emptyingTo a)) ≡ true)
-      (bytes : lendBytes now ≡ true) where
+module _ (before : List Made) (lent : Areas) (ms : List Made) (hands : AllHandOn (after unpowered (poweredOn before lent)) ms) where
+  module _ (a : Areas) (hand : HandsOn (after unpowered (sincePowerOn before lent ms)) (emptyingTo a)) (ok : isTaken (seen (sincePowerOn before lent ms) (emptyingTo a)) ≡ true)
+      (bytes : lendBytes (sincePowerOn before lent ms) ≡ true) where
     abbrev given : List ℕ
-    given = emptiedBy now a
+    given = emptiedBy (sincePowerOn before lent ms) a
 
     abbrev R : ℕ
-    R = places (told now .logLength)
+    R = places (told (sincePowerOn before lent ms) .logLength)
 
-    given-is : given ≡ history R (changes now)
+    given-is : given ≡ history R (changes (sincePowerOn before lent ms))
     given-is =
         let both = emptying-tells before lent ms hands a hand ok in
-        let log = history R (changes now) in
-        ap (take (seen now (emptyingTo a) .written)) (both .0)
-        ∙ take-at log (drop (length log) (a .out)) (seen now (emptyingTo a) .written) (sym (both .1))
+        let log = history R (changes (sincePowerOn before lent ms)) in
+        ap (take (seen (sincePowerOn before lent ms) (emptyingTo a) .written)) (both .0)
+        ∙ take-at log (drop (length log) (a .out)) (seen (sincePowerOn before lent ms) (emptyingTo a) .written) (sym (both .1))
 
     -- The bytes that an emptying which is taken gives are such as the log rule can produce.
-    pub emptied-produced : Produced Sixteen (emptiedBy now a)
+    pub emptied-produced : Produced Sixteen (emptiedBy (sincePowerOn before lent ms) a)
     emptied-produced = record {
       R = R;
-      size = emptied-size now a ok;
-      changes = changes now;
-      possible = changes-possible now bytes;
+      size = emptied-size (sincePowerOn before lent ms) a ok;
+      changes = changes (sincePowerOn before lent ms);
+      possible = changes-possible (sincePowerOn before lent ms) bytes;
       log = given-is;
     }
 
@@ -79,14 +75,18 @@ module _ (before : List Made) (lent : Areas) (ms : List Made) (hands : AllHandOn
 
     -- They are read, and the records read tell of each change since power-on or the last emptying, in order, or of the first of them, of how
     -- many were lost, of the tick of the first lost and of the word after the last.
-    pub emptied-reads : (rs : List Record) × (reading (emptiedBy now a) ≡ passed rs) × Tells Sixteen (places (told now .logLength)) (changes now) rs
+    pub emptied-reads : (rs : List Record) × (reading (emptiedBy (sincePowerOn before lent ms) a) ≡ passed rs)
+        × Tells Sixteen (places (told (sincePowerOn before lent ms) .logLength)) (changes (sincePowerOn before lent ms)) rs
     emptied-reads =
-        let read = reads-history Sixteen R (changes now) (emptied-size now a ok) (changes-possible now bytes) in
+        let read = reads-history Sixteen R (changes (sincePowerOn before lent ms)) (emptied-size (sincePowerOn before lent ms) a ok)
+        (changes-possible (sincePowerOn before lent ms) bytes) in
         let mark : reading given ≡ readingAs Sixteen given = ap (λ m. readingAs m given) given-layout in
         (read .0, mark ∙ ap (readingAs Sixteen) given-is ∙ read .1, read .2)
 
     -- So their text is a line for each of those changes, and one for the gap.
-    pub emptied-lists : listing (emptiedBy now a) ≡ linesOf Sixteen (recordsFor Sixteen (places (told now .logLength)) (changes now))
+    pub emptied-lists : listing (emptiedBy (sincePowerOn before lent ms) a)
+        ≡ linesOf Sixteen
+        (recordsFor Sixteen (places (told (sincePowerOn before lent ms) .logLength)) (changes (sincePowerOn before lent ms)))
     unfolding listing printed
     emptied-lists =
         ap (λ m. printed m (reading given)) given-layout ∙ ap (printed Sixteen) (emptied-reads .1) ∙ ap (linesOf Sixteen) (emptied-reads .2 .records)

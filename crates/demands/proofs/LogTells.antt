@@ -23,15 +23,15 @@ use Rattle.controller.specs.Invariant.{Invariant}
 use Rattle.controller.specs.Calls.{After, does, logged}
 use Rattle.controller.proofs.Refusals.{checked-log, area-long, log-long, accepted-call}
 use Rattle.controller.proofs.Logging.{Ordinary, aByte, aTick, aPress, ordinaryChange, logged-is}
-use Rattle.demands.specs.Histories.{Made, powering, emptyingTo, Held, unpowered, outcome, isAccepted, next, after, HandsOn, AllHandOn}
+use Rattle.demands.specs.Histories.{Made, powering, emptyingTo, Held, unpowered, outcome, isAccepted, next}
+use Rattle.demands.specs.Histories.{after, HandsOn, AllHandOn, poweredOn, sincePowerOn}
 use Rattle.demands.specs.Seen.{isTaken, seen, note, notes}
 use Rattle.demands.specs.Told.{Told, tell, told}
 use Rattle.demands.specs.Changes.{change, sinceCall, since, changes}
 use Rattle.demands.proofs.Answered.{next-invariant, invariant-always}
 use Rattle.demands.proofs.Agrees.{Agrees}
 use Rattle.demands.proofs.Changing.{change-as-told, no-change}
-use Rattle.demands.proofs.Telling.{agrees-next, after-more, changes-more}
-use Rattle.demands.proofs.AsTold.{held-as-told}
+use Rattle.demands.proofs.Telling.{agrees-next, after-more, changes-more, held-as-told}
 use Rattle.demands.proofs.Steps.{deed, Step, passes, fails, stepped, refused-held}
 
 -- ---- what holds after each call
@@ -121,47 +121,48 @@ copied h a ok =
 -- ---- the demand
 
 -- A power-on after any calls, and any calls after it; from it on the caller hands on both areas.
-module _ (before : List Made) (lent : Areas) (ms : List Made) (hands : AllHandOn (after unpowered (before ++ (powering lent ∷ []))) ms) where
-  abbrev pub on : List Made
-  on = before ++ (powering lent ∷ [])
-
-  abbrev pub now : List Made
-  now = on ++ ms
-
-  none-yet : changes on ≡ []
+module _ (before : List Made) (lent : Areas) (ms : List Made) (hands : AllHandOn (after unpowered (poweredOn before lent)) ms) where
+  none-yet : changes (poweredOn before lent) ≡ []
   unfolding since notes note
   none-yet = changes-more before (powering lent ∷ [])
 
-  tells-on : Tells [] (after unpowered on)
+  tells-on : Tells [] (after unpowered (poweredOn before lent))
   unfolding after
   tells-on = rw (after-more before (powering lent ∷ [])) (at-power-on (after unpowered before) lent)
 
-  tells-now : Tells (changes now) (after unpowered now)
+  tells-now : Tells (changes (sincePowerOn before lent ms)) (after unpowered (sincePowerOn before lent ms))
   tells-now =
-      rw (after-more on ms, changes-more on ms, none-yet)
-      (tells-after [] (told on) (after unpowered on) ms (held-as-told on) (invariant-always on) hands tells-on)
+      rw (after-more (poweredOn before lent) ms, changes-more (poweredOn before lent) ms, none-yet)
+      (tells-after [] (told (poweredOn before lent)) (after unpowered (poweredOn before lent)) ms (held-as-told (poweredOn before lent))
+      (invariant-always (poweredOn before lent)) hands tells-on)
 
   -- the records held are the history of the changes since power-on or the last emptying
-  log-tells : leastArea ≤ after unpowered now .state .log .length
-      → let h = after unpowered now in records (h .state .log) (h .log) ≡ history (R (h .state .log)) (changes now)
+  log-tells : leastArea ≤ after unpowered (sincePowerOn before lent ms) .state .log .length
+      → let h = after unpowered (sincePowerOn before lent ms) in records (h .state .log) (h .log)
+      ≡ history (R (h .state .log)) (changes (sincePowerOn before lent ms))
   log-tells enough = go tells-now
     where
-      go : Tells (changes now) (after unpowered now)
-          → records (after unpowered now .state .log) (after unpowered now .log) ≡ history (R (after unpowered now .state .log)) (changes now)
+      go : Tells (changes (sincePowerOn before lent ms)) (after unpowered (sincePowerOn before lent ms))
+          → records (after unpowered (sincePowerOn before lent ms) .state .log) (after unpowered (sincePowerOn before lent ms) .log)
+          ≡ history (R (after unpowered (sincePowerOn before lent ms) .state .log)) (changes (sincePowerOn before lent ms))
       go (tells g) = records-tell _ _ _ g
       go (unlogged z) = absurd (omega arith)
 
   -- An emptying that is taken copies to the start of its destination each change since power-on or the last emptying, in order, or the
   -- first of them and the number lost; it leaves the rest, and returns the length.
-  pub emptying-tells : (a : Areas) → HandsOn (after unpowered now) (emptyingTo a) → isTaken (seen now (emptyingTo a)) ≡ true
-      → let log = history (places (told now .logLength)) (changes now) in
-      (seen now (emptyingTo a) .areas .out ≡ over log (a .out)) × (seen now (emptyingTo a) .written ≡ length log)
+  pub emptying-tells : (a : Areas) → HandsOn (after unpowered (sincePowerOn before lent ms)) (emptyingTo a)
+      → isTaken (seen (sincePowerOn before lent ms) (emptyingTo a)) ≡ true
+      → let log = history (places (told (sincePowerOn before lent ms) .logLength)) (changes (sincePowerOn before lent ms)) in
+      (seen (sincePowerOn before lent ms) (emptyingTo a) .areas .out ≡ over log (a .out))
+      × (seen (sincePowerOn before lent ms) (emptyingTo a) .written ≡ length log)
   unfolding seen outcome
   emptying-tells a hand ok =
-      let h = after unpowered now in
+      let h = after unpowered (sincePowerOn before lent ms) in
       let ch = accepted-call emptying (h .state) a (eqb-true _ _ ok) .0 in
       let s = log-long (h .state) (a .log) (ch .checks .0 .log) in
-      let log : records (h .state .log) (a .log) ≡ history (places (told now .logLength)) (changes now) =
-      ap (records (h .state .log)) (hand .log refl ok) ∙ log-tells (s .0) ∙ ap (λ n. history (places n) (changes now)) (held-as-told now .logLength) in
+      let log : records (h .state .log) (a .log)
+      ≡ history (places (told (sincePowerOn before lent ms) .logLength)) (changes (sincePowerOn before lent ms)) =
+      ap (records (h .state .log)) (hand .log refl ok) ∙ log-tells (s .0)
+      ∙ ap (λ n. history (places n) (changes (sincePowerOn before lent ms))) (held-as-told (sincePowerOn before lent ms) .logLength) in
       let both = copied h a ok in
       (both .0 ∙ ap (λ rs. over rs (a .out)) log, both .1 ∙ ap (λ (rs : List ℕ). length rs) log)

@@ -39,8 +39,7 @@ use Rattle.demands.specs.Sent.{lentBy, making, makingAll, firstLent, fro
 use Rattle.demands.proofs.OfBytes.{zeros-bytes}
 use Rattle.demands.proofs.Answered.{next-invariant}
 use Rattle.demands.proofs.Changing.{changing}
-use Rattle.demands.proofs.Telling.{fresh-agrees, agrees-next}
-use Rattle.demands.proofs.AsTold.{held-as-told}
+use Rattle.demands.proofs.Telling.{fresh-agrees, agrees-next, held-as-told}
 use Rattle.demands.proofs.LogTells.{emptying-tells}
 use Rattle.demands.proofs.Steps.{heldThen, Step, passes, fails, stepped}
 use Rattle.demands.proofs.Sending.{length-zeros, Leads, none, more, leads-append, leads-told, leads-taken}

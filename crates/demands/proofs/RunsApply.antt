@@ -10,7 +10,6 @@ use lib.Dec.{eqb}
 use borrow.Author.Tests.{eqb-true, leb-true, ltb-true, not-true}
 use Rattle.formats.specs.Checks.{if_then_else_, text, passed, all}
 use Rattle.formats.proofs.Checks.{both-true}
-use Rattle.wire.specs.Naming.{Names}
 use Rattle.lines.specs.Line.{isBad}
 use Rattle.lines.specs.Program.{lineAt}
 use Rattle.lines.proofs.Lines.{is-bad}
@@ -20,10 +19,11 @@ use Rattle.running.specs.Running as Running
 use Rattle.duration.specs.Report.{report}
 use Rattle.controller.specs.Controller.{Areas}
 use Rattle.controller.specs.Refusals.{tick as tickCall}
-use Rattle.demands.specs.Histories.{Made, ending, ticking, Held, unpowered, after, HandsOn, AllHandOn}
+use Rattle.demands.specs.Histories.{Made, ticking, Held, unpowered, after, HandsOn, AllHandOn}
 use Rattle.demands.specs.Seen.{isTaken, seen, outputs, Note, note, notes}
 use Rattle.demands.specs.Told.{Told, said, starts, tell, tellAll, told, Never}
-use Rattle.demands.specs.ReadBack.{Arrives}
+use Rattle.demands.specs.ReadBack.{ReadOf}
+use Rattle.demands.specs.Started.{Course, Started, programOf, startOf, count, ruled, Ticks}
 use Rattle.demands.specs.Undisturbed.{Unbroken, isBroken, isPausing}
 use Rattle.demands.specs.Walks.{Ask, asking, asksOf, setOut, madeOf, noteBy, Trail, trail}
 use Rattle.demands.specs.Premises.{copy, goes, _behind_, oneMore, end, handsOn, never, ruledAt, isGiven}
@@ -48,8 +48,8 @@ use Rattle.demands.proofs.Walked.{
   nth,
   holds-at,
 }
-use Rattle.demands.proofs.ByTheRules as ByTheRules
-use Rattle.demands.proofs.ByTheRules.{pauses-only}
+use Rattle.demands.proofs.ByTheRules.{runs-by-the-rules, outputs-by-the-rules, ends-by-the-rules, pauses-only}
+use Rattle.demands.proofs.Ends.{bad-start, bad-tick, runs-as-long, ends-on-time, ends-at-once}
 
 -- ---- the start
 
@@ -136,8 +136,7 @@ module _ (x : Runs) where
   RunsSo =
       (told now .run ≡ ruledNow) × (outputs now ≡ ruledNow .outputs)
       × (told (now ++ (ticking t ∷ [])) .run ≡ tick (after unpowered p .program) ruledNow .run)
-      × Arrives (told now) (text "CR" ++ text (x .address)) × Names (told now .nextRead) (x .j) (text (x .address))
-      × (isTaken (seen now (ending (madeOf end (l .last) .areas))) ≡ true)
+      × ReadOf now (x .j) (madeOf end (l .last) .areas)
 
   -- what `runs-as-long` and `ends-on-time` say, and `bad-tick`
   abbrev pub EndsSo : Ends → Type 0
@@ -165,29 +164,29 @@ module _ (x : Runs) where
     unfolding runs begins
     unbroken = unbroken-so s (asksOf (x .later)) (at 4)
 
+    -- the theorems' course of calls
+    abbrev c : Course
+    c = record { before = p; starting = q; line = s .line; later = ms }
+
+    so : Started c
+    so = record { taken = taken; begins = start-at; hands = hands; unbroken = unbroken }
+
     -- the count of the theorem is the script's, and its run the one that was tested
-    count-is : ByTheRules.count p q (s .line) ms taken start-at hands unbroken ≡ x .count
+    count-is : count c ≡ x .count
     unfolding runs begins
     count-is = count-reached (at-started s) (asksOf (x .later)) ∙ eqb-true _ _ (at 8)
 
-    ruled-is : (n : ℕ) → ByTheRules.ruled p q (s .line) ms taken start-at hands unbroken n
-        ≡ ruledAt (goes (s .before)) (s .line) n
+    ruled-is : (n : ℕ) → ticks (programOf c) n (startOf c .run) ≡ ruledAt (goes (s .before)) (s .line) n
     unfolding outputs
     ruled-is n = ap (λ (h : Held). ticks (h .program) n (Running.start (h .program) (s .line) (h .state .run .outputs) .run)) (at-start s .held)
 
-    -- as the theorems have them
-    abbrev count : ℕ
-    count = ByTheRules.count p q (s .line) ms taken start-at hands unbroken
+    tested : ruled c ≡ ruledNow
+    tested = ap (λ n. ticks (programOf c) n (startOf c .run)) count-is ∙ ruled-is (x .count)
 
-    abbrev ruled : ℕ → Run
-    ruled = ByTheRules.ruled p q (s .line) ms taken start-at hands unbroken
-
-    tested : ruled count ≡ ruledNow
-    tested = ap ruled count-is ∙ ruled-is (x .count)
-
-    on : ruled count .on ≡ true
+    on : ruled c .on ≡ true
     unfolding runs begins
-    on = ap (λ (r : Run). r .on) (ap ruled (count-reached (at-started s) (asksOf (x .later))) ∙ ruled-is _) ∙ at 5
+    on =
+        ap (λ (r : Run). r .on) (ap (λ n. ticks (programOf c) n (startOf c .run)) (count-reached (at-started s) (asksOf (x .later))) ∙ ruled-is _) ∙ at 5
 
     -- the tick
     tick-taken : isTaken (seen now (ticking t)) ≡ true
@@ -201,30 +200,32 @@ module _ (x : Runs) where
     unfolding runs begins
     tick-unpaused = ap (λ (y : Told). y .paused) (at-now .told) ∙ not-true _ (at 6)
 
+    next : Ticks c t
+    next = record { taken = tick-taken; hands = tick-hand; unpaused = tick-unpaused }
+
     pub runs-apply : RunsSo
     unfolding runs begins
     runs-apply = (
-      ByTheRules.runs-by-the-rules p q (s .line) ms taken start-at hands unbroken on .0 ∙ tested,
-      ByTheRules.outputs-by-the-rules p q (s .line) ms taken start-at hands unbroken on ∙ ap (λ (r : Run). r .outputs) tested,
-      ByTheRules.ends-by-the-rules p q (s .line) ms taken start-at hands unbroken on t tick-taken tick-hand tick-unpaused .0
-          ∙ ap (λ r. tick (after unpowered p .program) r .run) tested,
-      arrives-reached at-now _ (at 10),
-      read-named at-now (x .j) _ (at 11),
-      taken-so at-now end (at 12),
+      runs-by-the-rules c so on .0 ∙ tested,
+      outputs-by-the-rules c so on ∙ ap (λ (r : Run). r .outputs) tested,
+      ends-by-the-rules c so on t next .0 ∙ ap (λ r. tick (programOf c) r .run) tested,
+      record {
+        address = text (x .address);
+        arrived = arrives-reached at-now _ (at 10);
+        named = read-named at-now (x .j) _ (at 11);
+        taken = taken-so at-now end (at 12);
+      },
     )
 
     pub ends-apply : (kind : Ends) → AllTrue (endsSo kind x) → EndsSo kind
     unfolding endsSo
     ends-apply onTime e =
         let first = eqb-true (s .line) 0 (e .0) in
-        let is : report (after unpowered p .program) ≡ passed (x .count + 1) =
-        ap (λ (h : Held). report (h .program)) (at-start s .held) ∙ given-so _ _ (e .1 .0) in
-        let ends = ByTheRules.ends-on-time p q (s .line) ms taken start-at hands unbroken first (x .count + 1) is (ap (λ n. n + 1) count-is) t tick-taken
-        tick-hand tick-unpaused in
-        (ByTheRules.runs-as-long p q (s .line) ms taken start-at hands unbroken first (x .count + 1) is (omega (arith, count-is)), ends .0, ends .1)
+        let is : report (programOf c) ≡ passed (x .count + 1) = ap (λ (h : Held). report (h .program)) (at-start s .held) ∙ given-so _ _ (e .1 .0) in
+        let ends = ends-on-time c so first (x .count + 1) is (ap (λ n. n + 1) count-is) t next in
+        (runs-as-long c so first (x .count + 1) is (omega (arith, count-is)), ends .0, ends .1)
     ends-apply onBad e =
-        ByTheRules.bad-tick p q (s .line) ms taken start-at hands unbroken on t tick-taken tick-hand tick-unpaused
-        (rw tested (leb-true _ _ (e .0))) (rw tested (ltb-true _ _ (e .1 .0)))
+        bad-tick c so on t next (rw tested (leb-true _ _ (e .0))) (rw tested (ltb-true _ _ (e .1 .0)))
         (ap₂ (λ (h : Held) (r : Run). lineAt (h .program) (r .line + 1)) (at-start s .held) tested ∙ is-bad _ (e .1 .1 .0)) .0
     ends-apply goesOn e = tt
 
@@ -253,8 +254,15 @@ module _ (x : AtOnce) (ok : AllTrue (atOnce x)) where
   once-hands : AllHandOn (after unpowered (before r)) (startCall r ∷ [])
   once-hands = (hand-reached (at-start r) (r .start) 16, tt)
 
+  abbrev once : Course
+  once = record { before = before r; starting = startCall r; line = r .line; later = [] }
+
+  once-so : Started once
+  unfolding notes
+  once-so = record { taken = once-taken; begins = once-starts; hands = once-hands; unbroken = tt }
+
   pub once-applies : OnceSo x
-  unfolding atOnce begins notes
+  unfolding atOnce begins
   once-applies = go (x .isOnBad) refl
     where
       program : after unpowered (before r) .program ≡ goes (r .before) .last .held .program
@@ -263,12 +271,10 @@ module _ (x : AtOnce) (ok : AllTrue (atOnce x)) where
       go : (c : Bool) → x .isOnBad ≡ c → told (startedBy r) .event ≡ (if c then 14 else 11)
       go true e =
           let is : isBad (lineAt (goes (r .before) .last .held .program) (r .line)) ≡ true = rw e at (tests 3) in
-          ByTheRules.bad-start (before r) (startCall r) (r .line) [] once-taken once-starts once-hands tt
-          (ap (λ y. lineAt y (r .line)) program ∙ is-bad _ is) .0
+          bad-start once once-so (ap (λ y. lineAt y (r .line)) program ∙ is-bad _ is) .0
       go false e =
           let two = both-true (eqb (r .line) 0) (isGiven (report (goes (r .before) .last .held .program)) 0) (rw e at (tests 3)) in
-          ByTheRules.ends-at-once (before r) (startCall r) (r .line) [] once-taken once-starts once-hands tt (eqb-true (r .line) 0 (two .0)) 0
-          (ap report program ∙ given-so _ 0 (two .1)) refl .0
+          ends-at-once once once-so (eqb-true (r .line) 0 (two .0)) 0 (ap report program ∙ given-so _ 0 (two .1)) refl .0
 
 -- ---- pauses
 

@@ -21,9 +21,8 @@ use Rattle.demands.specs.Told.{Told, powered, tell, tellAll, told}
 use Rattle.demands.specs.Changes.{changes, heldAfter}
 use Rattle.demands.specs.Lent.{firstOf, refusalOf}
 use Rattle.demands.proofs.Agrees.{Agrees}
-use Rattle.demands.proofs.Telling.{told-more}
+use Rattle.demands.proofs.Telling.{told-more, held-as-told}
 use Rattle.demands.proofs.LogLeft.{held-as-counted}
-use Rattle.demands.proofs.AsTold.{held-as-told}
 use Rattle.formats.proofs.Checks.{and-true}
 
 -- ---- checks

@@ -15,12 +15,14 @@ use Rattle.controller.specs.Refusals.{Call, powerOn, byte, tick, press, emptyin
 use Rattle.controller.specs.Effects.{isPowerOn}
 use Rattle.controller.specs.Calls.{does}
 use Rattle.controller.specs.Invariant.{Invariant}
+use Rattle.controller.proofs.Invariant.{fresh-invariant}
 use Rattle.controller.proofs.Logging.{logged-length}
 use Rattle.demands.specs.Histories.{Made, Held, unpowered, isAccepted, next, after}
 use Rattle.demands.specs.Seen.{note, notes}
 use Rattle.log.specs.declared.Change.{Change}
 use Rattle.demands.specs.Changes.{since, changes}
 use Rattle.demands.specs.Told.{Told, powered, afterwards, said, tell, tellAll, told}
+use Rattle.demands.proofs.Answered.{next-invariant}
 use Rattle.demands.proofs.Steps.{deed, heldThen, Step, passes, fails, stepped, refused-held}
 use Rattle.demands.proofs.Collects.{nothing-collected}
 use Rattle.demands.proofs.Agrees.{Agrees, log-agrees}
@@ -128,3 +130,16 @@ since-append (m ∷ xs) ys cs t h = since-append xs ys _ (tell t (note h m)) (ne
 pub changes-more : (xs ys : List Made) → changes (xs ++ ys) ≡ since (changes xs) (told xs) (notes (after unpowered xs) ys)
 unfolding changes told
 changes-more xs ys = since-append xs ys [] (powered 0) unpowered
+
+-- ---- after any calls
+
+agrees-after : (ms : List Made) (t : Told) (h : Held) → Invariant (h .state) → Agrees t (h .state) → Agrees (tellAll t (notes h ms)) (after h ms .state)
+unfolding tellAll notes after
+agrees-after [] t h i g = g
+agrees-after (m ∷ ms) t h i g = agrees-after ms (tell t (note h m)) (next h m) (next-invariant h m i) (agrees-next t h m i g)
+
+-- After any calls, whatever was lent to them, every part that the box holds, but for the counts of its log (`held-as-counted`), is what the
+-- history of the calls says by itself.
+pub held-as-told : (ms : List Made) → Agrees (told ms) (after unpowered ms .state)
+unfolding told
+held-as-told ms = agrees-after ms (powered 0) unpowered (fresh-invariant 0) (fresh-agrees 0)

@@ -18,7 +18,7 @@ use Rattle.special.specs.declared.Mode as M
 use Rattle.wire.specs.declared.Wire.{Wire}
 use Rattle.wire.specs.declared.Data.{Data}
 use Rattle.wire.specs.declared.Asked.the-variants.{Write}
-use Rattle.wire.specs.Collecting.{mostChars, capital, collect, sent}
+use Rattle.wire.specs.Collecting.{mostChars, collect, sent}
 use Rattle.wire.specs.Command.{isWritable, dataIn}
 use Rattle.wire.specs.Naming.{byDigits}
 use Rattle.wire.specs.Invariant.{WireInvariant}
@@ -36,6 +36,7 @@ use Rattle.controller.specs.Effects.{finished}
 use Rattle.controller.specs.Calls.{does, cause, logged}
 use Rattle.controller.proofs.Logging.{aByte, logged-is}
 use Rattle.controller.proofs.Wires.{Empty, answer-empties}
+use Rattle.demands.specs.Capitals.{countsAs, inCapitals}
 use Rattle.demands.specs.Histories.{Held, next}
 use Rattle.demands.specs.Sent.{lentBy, making}
 use Rattle.demands.specs.Seen.{note}
@@ -45,6 +46,7 @@ use Rattle.demands.proofs.Agrees.{Agrees}
 use Rattle.demands.proofs.Changing.{changing}
 use Rattle.demands.proofs.Collects.{Collects, nothing-collected, byte-collects, sent-whole}
 use Rattle.demands.proofs.Sending.{Leads, none, more, leads-append, Fit, byte-taken, fit-next, call-changes}
+use Rattle.demands.proofs.Capitals.{counts-as}
 
 -- ---- characters that are neither byte 13 nor a space nor a small letter
 
@@ -56,14 +58,14 @@ isPlain c = leb 48 c && leb c 90
 record Plain (c : ℕ) : Type 0 where
   noEnd : eqb c 13 ≡ false
   noSpace : eqb c 32 ≡ false
-  capitalIs : capital c ≡ c
+  capitalIs : countsAs c ≡ c
 
 plain : (c : ℕ) → isPlain c ≡ true → Plain c
 plain c e =
     let p = both-true (leb 48 c) (leb c 90) e in
     let lo : 48 ≤ c = leb-true 48 c (p .0) in
     let hi : c ≤ 90 = leb-true c 90 (p .1) in
-    record { noEnd = ne-eqb c 13 (λ z. omega arith); noSpace = ne-eqb c 32 (λ z. omega arith); capitalIs = rw (lt-leb 97 c (omega arith)) }
+    record { noEnd = ne-eqb c 13 (λ z. omega arith); noSpace = ne-eqb c 32 (λ z. omega arith); capitalIs = sym (counts-as c) ∙ rw (lt-leb 97 c (omega arith)) }
 
 -- a number is shown in such characters
 chars-plain : (base : ℕ) → base ≤ 16 → (ds : List ℕ) → all (isBelow base) ds ≡ true → all isPlain (map digitChar ds) ≡ true
@@ -77,7 +79,7 @@ unfolding shown
 shown-plain base n v pos le = chars-plain base le (digits base n v) (digits-below base pos n v)
 
 -- capitals are made of none of them
-plain-capitals : (cs : List ℕ) → all isPlain cs ≡ true → map capital cs ≡ cs
+plain-capitals : (cs : List ℕ) → all isPlain cs ≡ true → inCapitals cs ≡ cs
 plain-capitals [] e = refl
 plain-capitals (c ∷ cs) e =
     let p = both-true (isPlain c) (all isPlain cs) e in

@@ -24,26 +24,8 @@ use Rattle.demands.specs.Undisturbed.{isBroken, isPausing}
 use Rattle.demands.specs.FirstSteps.{hasRead, hasWritten}
 use Rattle.demands.specs.Changes.{noneBegins}
 use Rattle.demands.specs.Walks.{Act, own, Ask, asking, madeOf, Trail, isAsSaid}
-use Rattle.demands.specs.Premises.{
-  never,
-  handsOn,
-  counted,
-  arrives,
-  names,
-  namesNone,
-  isGiven,
-  isSome,
-  goes,
-  _behind_,
-  oneMore,
-  seenAt,
-  end,
-  powersAt,
-  noteAt,
-  notesIn,
-  lendsMoment,
-  ruledAt,
-}
+use Rattle.demands.specs.Premises.{never, handsOn, counted, arrives, names, isGiven, isSome, goes, _behind_, oneMore}
+use Rattle.demands.specs.Premises.{seenAt, end, powersAt, noteAt, notesIn, lendsMoment, ruledAt}
 
 -- ---- `ReadsBack.reads-back`, `line-accepted`
 
@@ -297,30 +279,6 @@ reads x =
     ∷ isAsSaid (x .before) (b .moments)
     ∷ []
 
--- `Unnamed`: after `before`, which ends with the characters of a read or a write by I or D and `left` behind it, there is no such address
-pub record NoSuch : Type 0 where
-  pub isRead : Bool
-  pub address : String
-  pub left : String
-  pub before : List Act
-
-abbrev pub begin : Bool → List ℕ
-begin reads = if reads then text "CR" else text "CW"
-
-abbrev pub nextOf : Bool → Told → ℕ
-nextOf reads t = if reads then t .nextRead else t .nextWrite
-
-unfoldable pub noSuch : NoSuch → List Bool
-noSuch x =
-    let b = goes (x .before) in
-    leb (length (begin (x .isRead) ++ (text (x .address) ++ text (x .left)))) mostChars
-    ∷ arrives (b .last .told) (begin (x .isRead) ++ (text (x .address) ++ text (x .left)))
-    ∷ namesNone (nextOf (x .isRead) (b .last .told)) (text (x .address))
-    ∷ isTaken (seenAt b end)
-    ∷ same (reply (seenAt b end)) (ended (errorText 4))
-    ∷ isAsSaid (x .before) (b .moments)
-    ∷ []
-
 -- ---- scripts
 
 pub data Script : Type 0 where
@@ -333,7 +291,6 @@ pub data Script : Type 0 where
   logging : Logs → Script
   listing : Logs → Script
   oneRead : Reads → Script
-  missing : NoSuch → Script
 
 abbrev pub testsOf : Script → List Bool
 testsOf (back x) = readsBack x
@@ -345,7 +302,6 @@ testsOf (firstWrite line x) = firstBy x "CW" line hasWritten ++ (same (text (x .
 testsOf (logging x) = logs x
 testsOf (listing x) = logs x ++ lend x
 testsOf (oneRead x) = reads x
-testsOf (missing x) = noSuch x
 
 -- the tests that fail, as 100 times the script's number and the test's own, the first script being number n
 unfoldable pub failingOf : ℕ → List Bool → List ℕ

@@ -2,7 +2,7 @@
 use Prim.Native.Nat.{ℕ}
 use mathlib.Core.Path.{_≡_}
 use mathlib.Core.Bool.{Bool, true, false, _&&_}
-use mathlib.Core.List.{List, [], _∷_}
+use mathlib.Core.List.{List, [], _∷_, _++_}
 use lib.Dec.{eqb}
 use Rattle.formats.specs.Checks.{if_then_else_}
 use Rattle.controller.specs.declared.Controller.{Controller}
@@ -28,6 +28,13 @@ powering a = record { call = powerOn; areas = a }
 
 abbrev pub emptyingTo : Areas → Made
 emptyingTo a = record { call = emptying; areas = a }
+
+-- calls, and a power-on after them; and other calls after that
+abbrev pub poweredOn : List Made → Areas → List Made
+poweredOn before a = before ++ (powering a ∷ [])
+
+abbrev pub sincePowerOn : List Made → Areas → List Made → List Made
+sincePowerOn before a later = poweredOn before a ++ later
 
 -- What the caller holds between two calls: the state that the last call returned, and the program area and the log as the last
 -- accepted call that was lent them left them.

@@ -4,15 +4,15 @@ use Prim.Native.Nat.{ℕ, _+_}
 use mathlib.Core.Bool.{Bool, true, false, not, _&&_, _||_}
 use mathlib.Core.List.{List, [], _∷_, _++_, map}
 use mathlib.Core.Option.{Option, none, some}
-use lib.Dec.{eqb, leb}
+use lib.Dec.{eqb}
 use Rattle.formats.specs.Checks.{Res, refused, passed, text, same, all}
 use Rattle.formats.specs.Digits.{shown}
 use Rattle.running.specs.declared.Run.{Run}
 use Rattle.running.specs.Running.{ticks}
 use Rattle.running.specs.Running as Running
-use Rattle.wire.specs.Collecting.{capital}
 use Rattle.controller.specs.Refusals.{powerOn, byte}
 use Rattle.controller.specs.Effects.{isPowerOn}
+use Rattle.demands.specs.Capitals.{inCapitals}
 use Rattle.demands.specs.Exchanges.{times, endMark}
 use Rattle.demands.specs.Histories.{isLentProgram, outcome}
 use Rattle.demands.specs.Seen.{Seen, seenOf, isTaken, Note}
@@ -48,15 +48,11 @@ counted (x ∷ xs) = counts (x .told) (x .note) + counted xs
 
 -- `ReadBack.Arrives`
 abbrev pub arrives : Told → List ℕ → Bool
-arrives t command = same (map capital (t .received)) command
+arrives t command = same (inCapitals (t .received)) command
 
 -- `wire/Naming.Names`
 abbrev pub names : ℕ → ℕ → List ℕ → Bool
 names next k a = same a (shown 10 3 k) || ((same a (text "I") && eqb k next) || (same a (text "D") && eqb (k + 2) next))
-
--- `wire/Naming.NamesNone`, of I and D
-abbrev pub namesNone : ℕ → List ℕ → Bool
-namesNone next a = (same a (text "I") && leb 217 next) || (same a (text "D") && leb next 1)
 
 -- the report gives so many ticks
 abbrev pub isGiven : Res ℕ → ℕ → Bool

@@ -1,56 +1,29 @@
--- Demand 2, "Commands, replies, error codes, variables": the reply to a finished command, from the history and
--- the program lent.
+-- Demand 2, "Commands, replies, error codes, variables": the reply to a finished command, by the history and the program lent.
 use Prim.Native.Nat.{ℕ}
-use mathlib.Core.Bool.{Bool, not}
-use mathlib.Core.List.{List, [], map}
-use lib.ListN.{length, take}
-use lib.Dec.{eqb, ltb}
-use Rattle.formats.specs.Checks.{if_then_else_, Res, refused, passed, _>>=_, text}
+use mathlib.Core.Path.{_≡_}
+use mathlib.Core.List.{List, [], _∷_, _++_}
+use Rattle.formats.specs.Checks.{text}
 use Rattle.formats.specs.Digits.{errorText}
-use Rattle.lines.specs.Line.{bytesOf}
-use Rattle.variables.specs.declared.Panel.{Panel}
-use Rattle.variables.specs.Variables.{isBadAt, value}
-use Rattle.special.specs.Special.{modeOf}
-use Rattle.wire.specs.declared.Wire.{Wire}
-use Rattle.wire.specs.declared.Asked.{Asked}
-use Rattle.wire.specs.declared.Asked.the-variants.{Read, Write}
-use Rattle.wire.specs.Collecting.{mostChars, capital}
-use Rattle.wire.specs.Command.{commandIn}
-use Rattle.controller.specs.Deeds.{ended, legible}
-use Rattle.controller.specs.Refusals.{Call}
-use Rattle.controller.specs.Effects.{isEnd}
+use Rattle.demands.specs.Said.{Said, silence, reads, writesLine, writesOutputs, writesParameter, gives}
 use Rattle.demands.specs.Told.{Told}
+use Rattle.demands.specs.Shown.{shownAt}
+use Rattle.demands.specs.Commands.{IsWritten, Allows, Error, First, number}
 
--- what is known of the wire: "a 33rd makes the command overlong", and the last address of each direction
-abbrev pub wireOf : Told → Wire
-wireOf t = record { chars = []; len = 0; overlong = ltb mostChars (length (t .received)); nextread = t .nextRead; nextwrite = t .nextWrite }
+-- "Replies [...] end in byte 13."
+abbrev pub ended : List ℕ → List ℕ
+ended reply = reply ++ (13 ∷ [])
 
--- what the characters received ask for, by the seven checks: "At most 32 characters are kept", "a-z count as A-Z"
-unfoldable pub checksOf : Told → Res Asked
-checksOf t = commandIn (map capital (take mostChars (t .received))) (wireOf t) (modeOf (t .run .on) (t .paused)) (t .parameter)
+-- a read is answered with what its address shows; "An accepted write answers OK."
+abbrev pub answerTo : Told → List ℕ → Said → List ℕ
+answerTo t program silence = []
+answerTo t program (reads k) = ended (shownAt t program k)
+answerTo t program (writesLine k l) = ended (text "OK")
+answerTo t program (writesOutputs k x) = ended (text "OK")
+answerTo t program (writesParameter v) = ended (text "OK")
+answerTo t program (gives n) = ended (text "OK")
 
--- 200, 209, 210, 212 and D7 of 201
-abbrev pub panelOf : Told → Panel
-panelOf t = record { single = bytesOf (t .single); parameter = t .parameter; special = t .special; event = t .event; unread = not (eqb (t .event) 0) }
-
--- what a read of address k shows, of a box that is lent this program
-abbrev pub shown : Told → List ℕ → ℕ → List ℕ
-shown t program k = value (panelOf t) (t .run) (t .paused) program k
-
--- a Bad line stands at address k
-abbrev pub isBadThen : Told → List ℕ → ℕ → Bool
-isBadThen t program k = isBadAt (panelOf t) program k
-
--- what they ask for of a box that is lent this program: 02, item 4, a read of a Bad line is E024, behind the seven checks
-abbrev pub commandOf : Told → List ℕ → Res Asked
-commandOf t program = checksOf t >>= legible (isBadThen t program)
-
--- "Errors are E and three digits." "An accepted write answers OK."
-abbrev pub replyTo : Res Asked → Told → List ℕ → List ℕ
-replyTo (refused e) t program = ended (errorText e)
-replyTo (passed (Read k)) t program = ended (shown t program k)
-replyTo (passed (Write k x)) t program = ended (text "OK")
-
--- 01, 'Calls and what is lent': "A byte that completes no command has a reply of length 0"; nor has a tick, a press or a power-on one
-abbrev pub answerTo : Call → Told → List ℕ → List ℕ
-answerTo k t program = if isEnd k then replyTo (commandOf t program) t program else []
+-- r is the reply to what was received: to a command that is written so and that the state allows; or else the first error that has its sentence.
+-- "Errors are E and three digits."
+pub data Reply (t : Told) (program r : List ℕ) : Type 0 where
+  toCommand : (s : Said) → IsWritten t s → Allows t program s → r ≡ answerTo t program s → Reply t program r
+  toError : (e : Error) → First t program e → r ≡ ended (errorText (number e)) → Reply t program r

@@ -6,8 +6,8 @@ use Rattle.controller.specs.Refusals.{powerOn, byte, tick, press, emptying}
 use Rattle.demands.specs.Exchanges.{change, gap}
 use Rattle.demands.specs.CallsTable.{lent}
 use Rattle.demands.specs.Walks.{Act, _⇒_, lends, gives, powers}
-use Rattle.demands.specs.Applying.{Back, Runs, onTime, onBad, goesOn, AtOnce, First, Logs, Reads, NoSuch, Script}
-use Rattle.demands.specs.Applying.{back, running, unpausing, ending, firstRead, firstWrite, logging, listing, oneRead, missing}
+use Rattle.demands.specs.Applying.{Back, Runs, onTime, onBad, goesOn, AtOnce, First, Logs, Reads, Script}
+use Rattle.demands.specs.Applying.{back, running, unpausing, ending, firstRead, firstWrite, logging, listing, oneRead}
 
 -- ---- calls that are refused, where the log has 64 bytes and holds a record
 
@@ -296,17 +296,6 @@ ofBadLine = record {
   before = powers 32 ∷ "CR006^c R0#0" ⇒ "S00000000000000^" ∷ lends tick (lent 1600 0 33 0) 31 ∷ "%7" ⇒ "" ∷ [];
 }
 
-abbrev pub after216 : NoSuch
-after216 = record { isRead = true; address = "I"; left = "Z9"; before = powers 32 ∷ "CR216^CW000N1^c#r%iz 9" ⇒ "0000^OK^" ∷ [] }
-
-abbrev pub before000 : NoSuch
-before000 = record {
-  isRead = false;
-  address = "D";
-  left = "N1";
-  before = powers 32 ∷ "CW000N1^CR100^c#w%D n" ⇒ "OK^S00000000000000^" ∷ gives [] ∷ "1" ⇒ "" ∷ [];
-}
-
 -- ---- all of them
 
 unfoldable pub scripts : List Script
@@ -325,6 +314,4 @@ scripts =
     ∷ listing shortLogs
     ∷ oneRead ofOutputs
     ∷ oneRead ofBadLine
-    ∷ missing after216
-    ∷ missing before000
     ∷ []

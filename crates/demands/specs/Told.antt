@@ -1,9 +1,9 @@
 -- What a history of calls says by itself: reckoned by the rules of 01 from the notes of its calls, that is from the calls, the areas
 -- lent and what was seen. No state of the box is read here: no note holds one.
-use Prim.Native.Nat.{ℕ, _+_}
+use Prim.Native.Nat.{ℕ, _+_, _*_, _/_, _%_}
 use mathlib.Core.Path.{_≡_}
 use mathlib.Core.Bool.{Bool, true, false, not, _&&_, _||_}
-use mathlib.Core.List.{List, [], _∷_, _++_, map}
+use mathlib.Core.List.{List, [], _∷_, _++_}
 use mathlib.Core.Option.{Option, none, some}
 use lib.ListN.{length}
 use lib.Dec.{eqb}
@@ -14,12 +14,11 @@ use Rattle.lines.specs.Program.{lineAt}
 use Rattle.running.specs.declared.Run.{Run}
 use Rattle.running.specs.declared.Ran.{Ran}
 use Rattle.running.specs.Running.{freshRun, withOutputs, stopped, rests, start, tick}
-use Rattle.variables.specs.Variables.{withOutputByte}
-use Rattle.wire.specs.Collecting.{capital}
 use Rattle.controller.specs.Controller.{Areas}
 use Rattle.controller.specs.Refusals.{Call, powerOn, byte, tick as aTick, press, emptying}
 use Rattle.controller.specs.Effects.{isEnd, isTick, isPress, isPowerOn}
 use Rattle.demands.specs.Histories.{Made, unpowered}
+use Rattle.demands.specs.Capitals.{inCapitals}
 use Rattle.demands.specs.Said.{Said, silence, reads, writesLine, writesOutputs, writesParameter, gives, spoken, given, readsEvent}
 use Rattle.demands.specs.Seen.{isTaken, reply, isError, Note, notes}
 
@@ -60,10 +59,17 @@ powered logLength = record {
   logLength = logLength;
 }
 
+-- the word with eight of its bits altered, "and no other bit": 203 has outputs 32-25, 206 outputs 8-1, and "Output n is bit n-1"
+unfoldable pub withByte : ℕ → ℕ → ℕ → ℕ
+withByte k x word =
+    (if eqb k 203 then x else word / 16777216 % 256) * 16777216 + (if eqb k 204 then x else word / 65536 % 256) * 65536
+    + (if eqb k 205 then x else word / 256 % 256) * 256
+    + (if eqb k 206 then x else word % 256)
+
 -- The command that a call finishes which is taken, by the characters received, in capitals, and by the reply that was seen.
 unfoldable pub said : Told → Note → Said
 said t n =
-    if isEnd (n .call) && not (isError (reply (n .seen))) then spoken (t .nextRead) (t .nextWrite) (map capital (t .received))
+    if isEnd (n .call) && not (isError (reply (n .seen))) then spoken (t .nextRead) (t .nextWrite) (inCapitals (t .received))
     else silence
 
 -- ---- each part after one call more: k, which is taken and no power-on, and finishes the command s
@@ -110,7 +116,7 @@ module _ (k : Call) (s : Said) (lent : Areas) (t : Told) where
         | silence ↦ ran .run
         | reads j ↦ ran .run
         | writesLine j l ↦ ran .run
-        | writesOutputs j x ↦ withOutputs (withOutputByte j x (t .run .outputs)) (t .run)
+        | writesOutputs j x ↦ withOutputs (withByte j x (t .run .outputs)) (t .run)
         | writesParameter v ↦ ran .run
         | gives n ↦ ran .run
       ]

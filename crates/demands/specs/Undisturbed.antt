@@ -2,11 +2,11 @@
 use Prim.Native.Nat.{ℕ, _+_}
 use mathlib.Core.Bool.{Bool, not, _&&_, _||_}
 use mathlib.Core.List.{List, [], _∷_}
-use lib.Dec.{eqb}
+use lib.Dec.{eqb, leb}
 use Rattle.formats.specs.Checks.{if_then_else_}
 use Rattle.controller.specs.Effects.{isTick, isPress, isPowerOn}
 use Rattle.demands.specs.Seen.{isTaken, Note}
-use Rattle.demands.specs.Said.{given}
+use Rattle.demands.specs.Said.{given, isOutputs, readsEvent}
 use Rattle.demands.specs.Told.{Told, said, tell, Never}
 
 -- power-on is called, or the program is stopped: by command 001, or by Start/Stop
@@ -28,3 +28,12 @@ unpaused t (n ∷ ns) = counts t n + unpaused (tell t n) ns
 -- 002, 004 or the button Pause
 unfoldable pub isPausing : Told → Note → Bool
 isPausing t n = isTaken (n .seen) && (eqb (given (said t n)) 2 || eqb (given (said t n)) 4 || isPress 2 (n .call))
+
+-- After a program has ended: power-on is called, or a program is started, a line executed, an output written, or the event read.
+unfoldable pub isTouched : Told → Note → Bool
+isTouched t n =
+    let s = said t n in
+    isPowerOn (n .call) || (isTaken (n .seen) && (isPress 1 (n .call) || (leb 1 (given s) && leb (given s) 6) || isOutputs s || readsEvent s))
+
+abbrev pub Untouched : Told → List Note → Type 0
+Untouched = Never isTouched

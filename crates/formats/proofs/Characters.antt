@@ -2,16 +2,15 @@
 -- Assumes nothing.
 use mathlib.Core.Path.{_≡_, refl, ap, ap₂, _∙_}
 use Prim.Native.Nat.{ℕ, _+_, _-_, _^_, _≤_, _<_}
-use mathlib.Core.Logic.{_≢_}
 use mathlib.Core.Bool.{true, _&&_}
 use mathlib.Core.List.{List, [], _∷_, map}
 use lib.ListN.{length, length-map}
 use lib.Dec.{leb, ltb, eqb}
 use native.Mathlib.Omega.{arith}
-use borrow.Author.Tests.{ne-eqb, lt-ltb, le-ltb, ltb-true, leb-true, le-leb, eqb-true}
-use Rattle.formats.specs.Checks.{refused, passed, _>>=_, _>>_, _orElse_, all, Ok}
+use borrow.Author.Tests.{lt-ltb, le-ltb, ltb-true, leb-true, le-leb, eqb-true}
+use Rattle.formats.specs.Checks.{passed, _>>=_, _>>_, _orElse_, all, Ok}
 use Rattle.formats.specs.Digits.{digits, digitChar, digitValue, isDigit, shown, numberIn, h, hIn, d, dIn}
-use Rattle.formats.proofs.Checks.{if-case, both-true, below, ok-guard, Err, err-bind, err-guard}
+use Rattle.formats.proofs.Checks.{if-case, both-true, below, ok-guard, Err, err-guard}
 use Rattle.formats.proofs.Digits.{isBelow, length-digits, number-below, digits-below, number-digits, digits-number}
 
 -- ---- one character
@@ -116,21 +115,6 @@ d-back v le = rw (length-shown 10 3 v, shown-back 10 (omega arith) (omega arith)
 
 -- ---- the errors of characters that are no number
 
-pub d-not-three : (cs : List ℕ) → length cs ≢ 3 → dIn cs ≡ refused 2
-unfolding dIn _>>_ _orElse_
-d-not-three cs ne = rw (ne-eqb (length cs) 3 ne)
-
 pub number-err : (P : ℕ → Type 0) (base e : ℕ) → P e → (cs : List ℕ) → Err P (numberIn base e cs)
 unfolding numberIn
 number-err P base e h cs = err-guard P (all (isDigit base) cs) e _ (λ _. h) λ _. tt
-
-module _ (P : ℕ → Type 0) (two : P 2) (three : P 3) (cs : List ℕ) where
-  pub h-err : Err P (hIn cs)
-  unfolding hIn
-  h-err = err-guard P (eqb (length cs) 2) 2 _ (λ _. two) λ _. number-err P 16 3 three cs
-
-  pub d-err : Err P (dIn cs)
-  unfolding dIn
-  d-err =
-      err-guard P (eqb (length cs) 3) 2 _ (λ _. two) λ _.
-      err-bind P (numberIn 10 3 cs) _ (number-err P 10 3 three cs) λ v _. err-guard P (leb v 255) 3 _ (λ _. three) λ _. tt

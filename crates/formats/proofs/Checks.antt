@@ -20,11 +20,6 @@ pub if-case {ℓ} : {A : Type ℓ} (P : A → Type 0) (t : Bool) {x y : A} → (
 if-case P true f g = f refl
 if-case P false f g = g refl
 
--- two choices by one test
-pub if-two : {A B : Type 0} (R : A → B → Type 0) (t : Bool) {x y : A} {x′ y′ : B} → R x x′ → R y y′ → R (if t then x else y) (if t then x′ else y′)
-if-two R true p q = p
-if-two R false p q = q
-
 -- the branch that a test takes
 pub if-true : {A : Type 0} (t : Bool) (x y : A) → t ≡ true → x ≡ (if t then x else y)
 if-true t x y e = ap (λ u. if u then x else y) (sym e)
@@ -193,11 +188,6 @@ pub err-at : {A : Type 0} (P : ℕ → Type 0) {r : Res A} {e : ℕ} → Err P r
 err-at P err f = rw f at err
 
 module _ {B : Type 0} (P : ℕ → Type 0) where
-  -- the number is known by its equation
-  pub err-known : (r : Res B) → ((e : ℕ) → r ≡ refused e → P e) → Err P r
-  err-known (refused e) k = k e refl
-  err-known (passed a) k = tt
-
   pub err-bind : {A : Type 0} (m : Res A) (f : A → Res B) → Err P m → ((a : A) → m ≡ passed a → Err P (f a)) → Err P (m >>= f)
   unfolding _>>=_
   err-bind (refused e) f h k = h

@@ -8,3 +8,5 @@ pub mod Bytes
 pub mod Places
 pub mod Writing
 pub mod DigitsWritten
+pub mod Order
+pub mod Readers

@@ -3,3 +3,4 @@ pub mod Digits
 pub mod Bytes
 pub mod Numbers
 pub mod Writing
+pub mod Order

@@ -19,8 +19,8 @@ use Rattle.formats.proofs.Digits.{isBelow}
 use Rattle.formats.proofs.Bytes.{field-back}
 use Rattle.lines.specs.declared.Line.{Line}
 use Rattle.lines.specs.declared.Line.the-variants.{State, For, Next, Bad}
-use Rattle.lines.specs.Line.{isCounter, isState, isFor, isNext, isBad, readLine, bytesOf}
-use Rattle.lines.proofs.Lines.{Ranges, read-ranged, Fits, bytes-back, is-bad, Sets, Word, read-word}
+use Rattle.lines.specs.Line.{isCounter, isState, isFor, isNext, isBad, readLine, bytesOf, Ranges, Fits}
+use Rattle.lines.proofs.Lines.{read-ranged, bytes-back, is-bad, Sets, Word, read-word}
 use Rattle.lines.proofs.Places.{eight}
 
 -- ---- what is read as a line is written as those bytes

@@ -16,16 +16,9 @@ use Rattle.formats.proofs.Digits.{isBelow, digits-below}
 use Rattle.formats.proofs.Bytes.{number-bytes, field-below}
 use Rattle.lines.specs.declared.Line.{Line}
 use Rattle.lines.specs.declared.Line.the-variants.{State, For, Next, Bad}
-use Rattle.lines.specs.Line.{isCounter, isState, isFor, isNext, isBad, setBy, readLine, bytesOf}
+use Rattle.lines.specs.Line.{isCounter, isState, isFor, isNext, isBad, setBy, readLine, bytesOf, Ranges, Fits}
 
 -- ---- the ranges
-
--- "Times and counts are at most 9999", "loop counter [...] 1-4"
-abbrev pub Ranges : Line → Type 0
-Ranges (State outputs time) = time ≤ 9999
-Ranges (For counter count) = (isCounter counter ≡ true) × (count ≤ 9999)
-Ranges (Next counter) = isCounter counter ≡ true
-Ranges Bad = Unit {0}
 
 pub record Ranged (l : Line) : Type 0 where
   pub range : Ranges l
@@ -53,13 +46,6 @@ read-ranged bs =
     record { range = tt }
 
 -- ---- a line written and read
-
--- the values that the wire and the eight bytes can hold; a Bad line has none
-abbrev pub Fits : Line → Type 0
-Fits (State outputs time) = (outputs < 256 ^ 4) × (time ≤ 9999)
-Fits (For counter count) = (isCounter counter ≡ true) × (count ≤ 9999)
-Fits (Next counter) = isCounter counter ≡ true
-Fits Bad = ⊥
 
 -- what the test says
 pub is-bad : (l : Line) → isBad l ≡ true → l ≡ Bad

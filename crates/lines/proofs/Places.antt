@@ -12,9 +12,9 @@ use Rattle.formats.proofs.Checks.{all-drop}
 use Rattle.formats.proofs.Digits.{isBelow}
 use Rattle.formats.proofs.Places.{same-place, other-place}
 use Rattle.lines.specs.declared.Line.{Line}
-use Rattle.lines.specs.Line.{readLine, bytesOf}
+use Rattle.lines.specs.Line.{readLine, bytesOf, Fits}
 use Rattle.lines.specs.Program.{lineAt, putLine}
-use Rattle.lines.proofs.Lines.{Ranged, read-ranged, Fits, bytes-back, length-bytes, Sets, Word, read-word}
+use Rattle.lines.proofs.Lines.{Ranged, read-ranged, bytes-back, length-bytes, Sets, Word, read-word}
 
 -- ---- one line alone
 

@@ -139,8 +139,8 @@ tick-told p r on =
 -- ---- what an end says of the line at which it came
 
 -- neither of the two
-other-end : (p : List ℕ) (e : ℕ) (r : Run) → e ≢ 11 → e ≢ 14 → Ended p e r
-other-end p e r a b = record { well = λ z. absurd (a z); badly = λ z. absurd (b z) }
+other-end : (p : List ℕ) (e : ℕ) (r : Run) → e ≤ 14 → e ≢ 11 → e ≢ 14 → Ended p e r
+other-end p e r le a b = record { known = le; well = λ z. absurd (a z); badly = λ z. absurd (b z) }
 
 -- of one line: if it ends the program, so it ended
 abbrev EndsSo : List ℕ → Step → Type 0
@@ -151,23 +151,23 @@ ends-so p e r h f is = let same : e ≡ f = cc in rw same at h
 
 onward-ends : (p : List ℕ) (r : Run) → EndsSo p (onward r)
 onward-ends p r =
-    onward-ways (EndsSo p) r (λ _ e is. absurd (not-ends′ is refl)) (λ _. ends-so p 9 r (other-end p 9 r (λ z. omega arith) (λ z. omega arith)))
+    onward-ways (EndsSo p) r (λ _ e is. absurd (not-ends′ is refl)) (λ _. ends-so p 9 r (other-end p 9 r (omega arith) (λ z. omega arith) (λ z. omega arith)))
 
 module _ (p : List ℕ) (r : Run) where
   line-ends : (l : Line) → lineAt p (r .line) ≡ l → EndsSo p (runLine p l r)
   line-ends (State o t) is =
       state-ways (EndsSo p) p r o t (λ _ e h. absurd (not-ends h refl))
-      (λ none. ends-so p 11 _ (record { well = λ _. rw none at is; badly = λ z. absurd (omega arith) }))
+      (λ none. ends-so p 11 _ (record { known = omega arith; well = λ _. rw none at is; badly = λ z. absurd (omega arith) }))
   line-ends (For c n) is =
       for-ways (EndsSo p) p r c n
-      (λ _. ends-so p 6 r (other-end p 6 r (λ z. omega arith) (λ z. omega arith)))
-      (λ _ _. ends-so p 7 r (other-end p 7 r (λ z. omega arith) (λ z. omega arith)))
+      (λ _. ends-so p 6 r (other-end p 6 r (omega arith) (λ z. omega arith) (λ z. omega arith)))
+      (λ _ _. ends-so p 7 r (other-end p 7 r (omega arith) (λ z. omega arith) (λ z. omega arith)))
       (λ _ _ _. onward-ends p _)
       (λ _ _ _. onward-ends p _)
   line-ends (Next c) is =
-      next-ways (EndsSo p) p r c (λ _. ends-so p 8 r (other-end p 8 r (λ z. omega arith) (λ z. omega arith))) (λ _ e h. absurd (not-ends′ h refl))
+      next-ways (EndsSo p) p r c (λ _. ends-so p 8 r (other-end p 8 r (omega arith) (λ z. omega arith) (λ z. omega arith))) (λ _ e h. absurd (not-ends′ h refl))
       (λ _. onward-ends p _)
-  line-ends Bad is = bad-way (EndsSo p) p r (ends-so p 14 r (record { well = λ z. absurd (omega arith); badly = λ _. is }))
+  line-ends Bad is = bad-way (EndsSo p) p r (ends-so p 14 r (record { known = omega arith; well = λ z. absurd (omega arith); badly = λ _. is }))
 
   step-ends : EndsSo p (step p r)
   unfolding step
@@ -178,11 +178,11 @@ abbrev pub EndsAsItSays : List ℕ → Ran → Type 0
 EndsAsItSays p x = Ended p (x .event) (x .run)
 
 no-end : (p : List ℕ) (n : ℕ) (r : Run) → EndsAsItSays p (rests n r)
-no-end p n r = other-end p 0 r (λ z. omega arith) (λ z. omega arith)
+no-end p n r = other-end p 0 r (omega arith) (λ z. omega arith) (λ z. omega arith)
 
 stopped-ends : (p : List ℕ) (e n : ℕ) (r : Run) → Ended p e r → EndsAsItSays p (stops e n r)
 unfolding stopped
-stopped-ends p e n r h = record { well = h .well; badly = h .badly }
+stopped-ends p e n r h = record { known = h .known; well = h .well; badly = h .badly }
 
 follow-ends : (p : List ℕ) (h : How) (n : ℕ) (r : Run) (go : Run → Ran) → ((e : ℕ) → h ≡ Ends e → Ended p e r) → ((s : Run) → EndsAsItSays p (go s))
     → EndsAsItSays p (follow h n r go)
@@ -193,7 +193,8 @@ follow-ends p GoesOn n r go ends k = k r
 due-ends-so : (p : List ℕ) (left n : ℕ) (r : Run) → EndsAsItSays p (runDue p left n r)
 unfolding runDue
 due-ends-so p zero n r =
-    if-case (EndsAsItSays p) (isForOrNext (lineAt p (r .line))) (λ _. stopped-ends p 13 n r (other-end p 13 r (λ z. omega arith) (λ z. omega arith)))
+    if-case (EndsAsItSays p) (isForOrNext (lineAt p (r .line)))
+    (λ _. stopped-ends p 13 n r (other-end p 13 r (omega arith) (λ z. omega arith) (λ z. omega arith)))
     (λ _. follow-ends p (step p r .how) n (step p r .run) _ (step-ends p r) (λ s. no-end p n s))
 due-ends-so p (suc left) n r = follow-ends p (step p r .how) _ (step p r .run) _ (step-ends p r) (λ s. due-ends-so p left _ s)
 

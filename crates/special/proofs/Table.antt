@@ -2,15 +2,15 @@
 -- gets there, and that error says why.
 -- Assumes nothing.
 use mathlib.Core.Path.{_≡_, refl, sym, ap, ap₂, _∙_}
-use Prim.Native.Nat.{ℕ, zero, suc, _+_, _-_, _*_, _/_, _%_, _<_, _≤_}
+use Prim.Native.Nat.{ℕ, zero, suc, _+_, _-_, _*_, _/_, _%_, _<_}
 use native.Mathlib.Omega.{arith}
-use mathlib.Core.Bool.{Bool, true, false, not, _&&_, _||_}
+use mathlib.Core.Bool.{Bool, true, false, not, _&&_}
 use mathlib.Core.List.{List, [], _∷_, _++_}
-use lib.Dec.{eqb, leb, lit<}
+use lib.Dec.{eqb, lit<}
 use lib.ListN.{getD}
-use borrow.Author.Tests.{eqb-true, leb-true}
+use borrow.Author.Tests.{eqb-true}
 use Rattle.formats.specs.Checks.{if_then_else_, Res, refused, passed}
-use Rattle.formats.proofs.Checks.{both-true, allBelow, below}
+use Rattle.formats.proofs.Checks.{allBelow, below}
 use Rattle.special.specs.declared.Mode.{Mode}
 use Rattle.special.specs.declared.Mode.the-variants.{Stop, Pause, Auto}
 use Rattle.special.specs.declared.Special.{Special}
@@ -92,13 +92,3 @@ isReason e s =
 pub says-why : (s : Special) (mode : Mode) → isReason (forbidden s mode) s ≡ true
 unfolding forbidden specialOf
 says-why = every (λ s mode. isReason (forbidden s mode) s) refl
-
--- Where it is not allowed, that is one of 020, 021 and 022.
-in-range : (s : Special) (mode : Mode) → (allowed s mode || (leb 20 (forbidden s mode) && leb (forbidden s mode) 22)) ≡ true
-unfolding forbidden specialOf
-in-range = every (λ s mode. allowed s mode || (leb 20 (forbidden s mode) && leb (forbidden s mode) 22)) refl
-
-pub forbidden-number : (s : Special) (mode : Mode) → allowed s mode ≡ false → (20 ≤ forbidden s mode) × (forbidden s mode ≤ 22)
-forbidden-number s mode f =
-    let p = both-true (leb 20 (forbidden s mode)) (leb (forbidden s mode) 22) (rw f at (in-range s mode)) in
-    (leb-true 20 (forbidden s mode) (p .0), leb-true (forbidden s mode) 22 (p .1))

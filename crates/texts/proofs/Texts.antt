@@ -18,9 +18,9 @@ use Rattle.formats.proofs.Parts.{length-part}
 use Rattle.lines.specs.declared.Line.{Line}
 use Rattle.lines.specs.declared.Line.the-variants.{State, For, Next, Bad}
 use Rattle.formats.specs.Bytes.{part}
-use Rattle.lines.specs.Line.{isCounter, isBad}
-use Rattle.texts.specs.Text.{lineText, lineLength, counterIn, stateIn, forIn, nextIn, lineIn}
-use Rattle.lines.proofs.Lines.{Fits, fits-good}
+use Rattle.lines.specs.Line.{isCounter, isBad, Fits}
+use Rattle.texts.specs.Text.{lineText, lineLength, counterIn, stateIn, forIn, nextIn, lineIn, Sent}
+use Rattle.lines.proofs.Lines.{fits-good}
 
 -- ---- parts of the characters
 
@@ -59,11 +59,6 @@ counter-read cs le =
     ok-guard (CounterRead (part 1 1 cs)) (isCounter c) 3 _ λ e. record { read = r; inRange = e }
 
 -- ---- what is accepted is shown as it was sent
-
--- the line is shown by these characters, and its values fit
-pub record Sent (cs : List ℕ) (l : Line) : Type 0 where
-  pub shows : lineText l ≡ cs
-  pub fits : Fits l
 
 -- the reserved digits
 pub zeros : shown 10 2 0 ≡ text "00"
@@ -200,32 +195,24 @@ text-accepted Bad f = absurd f
 
 -- ---- the errors of characters that are no line
 
-module _ (P : ℕ → Type 0) (two : P 2) (three : P 3) where
+module _ (P : ℕ → Type 0) (three : P 3) where
   counter-err : (cs : List ℕ) → Err P (counterIn cs)
   unfolding counterIn
   counter-err cs = err-bind P (numberIn 10 3 cs) _ (number-err P 10 3 three cs) λ c _. err-guard P (isCounter c) 3 _ (λ _. three) λ _. tt
 
-  state-err : (cs : List ℕ) → Err P (stateIn cs)
+  pub state-err : (cs : List ℕ) → Err P (stateIn cs)
   unfolding stateIn
   state-err cs =
       err-bind P (numberIn 10 3 (part 1 2 cs)) _ (number-err P 10 3 three _) λ reserved _. err-guard P (eqb reserved 0) 3 _ (λ _. three) λ _.
       err-bind P (numberIn 16 3 (part 3 8 cs)) _ (number-err P 16 3 three _) λ outputs _.
       err-bind P (numberIn 10 3 (part 11 4 cs)) _ (number-err P 10 3 three _) λ time _. tt
 
-  for-err : (cs : List ℕ) → Err P (forIn cs)
+  pub for-err : (cs : List ℕ) → Err P (forIn cs)
   unfolding forIn
   for-err cs =
       err-bind P (counterIn (part 1 1 cs)) _ (counter-err _) λ counter _.
       err-bind P (numberIn 10 3 (part 2 4 cs)) _ (number-err P 10 3 three _) λ count _. tt
 
-  next-err : (cs : List ℕ) → Err P (nextIn cs)
+  pub next-err : (cs : List ℕ) → Err P (nextIn cs)
   unfolding nextIn
   next-err cs = err-bind P (counterIn (part 1 1 cs)) _ (counter-err _) λ counter _. tt
-
-  pub line-err : (cs : List ℕ) → Err P (lineIn cs)
-  unfolding lineIn
-  line-err cs =
-      let first = getD cs 0 0 in
-      err-guard P (ltb 0 (length cs)) 2 _ (λ _. two) λ _. err-guard P (ltb 0 (lineLength first)) 3 _ (λ _. three) λ _.
-      err-guard P (eqb (length cs) (lineLength first)) 2 _ (λ _. two) λ _.
-      if-case (Err P) (eqb first (code "S")) (λ _. state-err cs) λ _. if-case (Err P) (eqb first (code "F")) (λ _. for-err cs) λ _. next-err cs

@@ -1,5 +1,7 @@
 -- A line on the wire.
 -- 01, 'Variables': "Wire forms: `S 00 X4 X3 X2 X1 TTTT`, `F C XXXX`, `N C`."
+use mathlib.Core.Path.{_≡_}
+use mathlib.Core.Logic.{_≢_}
 use Prim.Native.Nat.{ℕ}
 use Prim.Native.Char.{code}
 use mathlib.Core.List.{List, [], _++_}
@@ -10,7 +12,7 @@ use Rattle.formats.specs.Digits.{shown, numberIn}
 use Rattle.lines.specs.declared.Line.{Line}
 use Rattle.lines.specs.declared.Line.the-variants.{State, For, Next, Bad}
 use Rattle.formats.specs.Bytes.{part}
-use Rattle.lines.specs.Line.{isCounter}
+use Rattle.lines.specs.Line.{isCounter, Fits}
 
 -- A Bad line has no characters: no reply shows one (02, item 4: it is answered with E024).
 unfoldable pub lineText : Line → List ℕ
@@ -58,3 +60,16 @@ lineIn cs =
       ltb 0 (lineLength first) orElse 3
       eqb (length cs) (lineLength first) orElse 2
       if eqb first (code "S") then stateIn cs else if eqb first (code "F") then forIn cs else nextIn cs
+
+-- the line is shown by these characters, and its values fit
+pub record Sent (cs : List ℕ) (l : Line) : Type 0 where
+  pub shows : lineText l ≡ cs
+  pub fits : Fits l
+
+-- 01, check 5: "Characters left over or missing: E002. For a line (000-200) the first data letter sets the length: S 15, F 6, N 2 characters. No data
+-- is E002".
+pub data WrongLineLength (cs : List ℕ) : Type 0 where
+  noData : cs ≡ [] → WrongLineLength cs
+  ofState : getD cs 0 0 ≡ code "S" → length cs ≢ 15 → WrongLineLength cs
+  ofFor : getD cs 0 0 ≡ code "F" → length cs ≢ 6 → WrongLineLength cs
+  ofNext : getD cs 0 0 ≡ code "N" → length cs ≢ 2 → WrongLineLength cs

@@ -1,22 +1,20 @@
 -- Laws of whole commands, which the promises cite instead of the checks' text.
 -- Assumes nothing.
 use mathlib.Core.Path.{_≡_, refl, sym, ap, _∙_}
-use mathlib.Core.Logic.{inl, inr}
 use Prim.Native.Nat.{ℕ, _≤_, _<_}
 use native.Mathlib.Omega.{arith}
 use mathlib.Core.Bool.{true, false}
 use mathlib.Core.List.{List, [], _∷_, _++_, append-nil}
-use lib.ListN.{length}
 use lib.Dec.{eqb, leb}
 use borrow.Author.Tests.{le-leb, lt-leb, leb-true}
-use Rattle.formats.specs.Checks.{refused, passed, _>>=_, _>>_, _orElse_, text, Ok}
+use Rattle.formats.specs.Checks.{passed, _>>=_, _>>_, _orElse_, text, Ok}
 use Rattle.formats.specs.Digits.{h, hIn, d, dIn}
 use Rattle.formats.proofs.Checks.{if-case, ok-bind, ok-passed, ok-guard}
 use Rattle.formats.proofs.Characters.{h-back, d-back}
 use Rattle.lines.specs.declared.Line.{Line}
-use Rattle.texts.specs.Text.{lineText, lineIn}
-use Rattle.lines.proofs.Lines.{Fits}
-use Rattle.texts.proofs.Texts.{Sent, accepted-shows, text-accepted}
+use Rattle.texts.specs.Text.{lineText, lineIn, Sent}
+use Rattle.lines.specs.Line.{Fits}
+use Rattle.texts.proofs.Texts.{accepted-shows, text-accepted}
 use Rattle.wire.specs.declared.Wire.{Wire}
 use Rattle.special.specs.declared.Mode.{Mode}
 use Rattle.special.specs.declared.Mode.the-variants.{Stop}
@@ -28,12 +26,12 @@ use Rattle.wire.specs.Collecting.{sent}
 use Rattle.special.specs.declared.Special.{Special}
 use Rattle.special.specs.Special.{codeOf, allowed, specialOf, inReach}
 use Rattle.special.proofs.Codes.{code-high, code-back}
-use Rattle.wire.specs.Command.{isRead, hasAddress, rest, isWritable, isOpen, specialIn, dataIn, readCommand, writeCommand, commandIn, command}
-use Rattle.wire.specs.Naming.{Names, IsStep, NamesNone}
+use Rattle.wire.specs.Command.{isRead, rest, isWritable, isOpen, specialIn, dataIn, readCommand, writeCommand, commandIn, command}
+use Rattle.wire.specs.Naming.{Names}
 use Rattle.wire.specs.Sound.{Permitted, SoundData, Sound}
 use Rattle.wire.specs.Invariant.{WireInvariant}
 use Rattle.wire.proofs.Ways.{is-given}
-use Rattle.wire.proofs.Addresses.{outputs-from, found, unnamed, address-inside, writable-inside}
+use Rattle.wire.proofs.Addresses.{outputs-from, found, address-inside, writable-inside}
 
 -- ---- what a command that passes the checks can ask for
 
@@ -109,28 +107,6 @@ module _ (w : Wire) (mode : Mode) (parameter : ℕ) (short : w .overlong ≡ fal
         → command w mode parameter ≡ passed (Write k x)
     unfolding _>>=_ _>>_ _orElse_
     data-accepted can open′ x d = write-checks can ∙ rw (open′, d)
-
--- ---- commands that step to no address
-
--- a step makes three characters, for check 1, and is an address for check 2
-step-passes : (x y : ℕ) (a more : List ℕ) → IsStep a → let cs = x ∷ y ∷ (a ++ more) in (leb 3 (length cs) ≡ true) × (hasAddress cs ≡ true)
-unfolding text
-step-passes x y a more (inl i) = rw i (le-leb 3 (length (x ∷ y ∷ 73 ∷ more)) (omega arith), refl)
-step-passes x y a more (inr d) = rw d (le-leb 3 (length (x ∷ y ∷ 68 ∷ more)) (omega arith), refl)
-
-module _ (w : Wire) (mode : Mode) (parameter : ℕ) (short : w .overlong ≡ false) (i : WireInvariant w) (a more : List ℕ) (step : IsStep a) where
-  -- E004, before all later checks
-  pub read-unnamed : sent w ≡ text "CR" ++ (a ++ more) → NamesNone (w .nextread) a → command w mode parameter ≡ refused 4
-  unfolding command commandIn readCommand text _>>=_ _>>_ _orElse_
-  read-unnamed e none =
-      let p = step-passes 67 82 a more step in
-      rw (e, p .0, short, p .1, unnamed 67 82 (w .nextread) more (i .nextRead) a step none)
-
-  pub write-unnamed : sent w ≡ text "CW" ++ (a ++ more) → NamesNone (w .nextwrite) a → command w mode parameter ≡ refused 4
-  unfolding command commandIn writeCommand text _>>=_ _>>_ _orElse_
-  write-unnamed e none =
-      let p = step-passes 67 87 a more step in
-      rw (e, p .0, short, p .1, unnamed 67 87 (w .nextwrite) more (i .nextWrite) a step none)
 
 -- ---- data in their format
 

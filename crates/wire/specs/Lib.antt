@@ -4,4 +4,3 @@ pub mod HeardCommand
 pub mod Naming
 pub mod Invariant
 pub mod Sound
-pub mod Grounds
