@@ -7,18 +7,19 @@ The theorems are what is public in the modules that the head of docs/PROMISES.md
 with the parameters of the modules that it stands in. So do the contracts of what is called from outside: of the public functions of
 `calls` and `nizhalepu`, and of the program `durations`. Every name used there is followed to its definition in the repository, and from the
 definition's own text on to the names that it uses; a struct or an enum of the sources counts by its lines there. It stops at the
-toolchain's library and at the box itself, `controller/Calls.call`: the code is proved against it and the theorems speak of it, so of that
-definition only its signature is followed.
+toolchain's library and at what STOPS lists, with the reason, which the page shows too: of such a definition only its signature is followed.
+What a computed theorem says of each row of a table stands in the row: the modules that ROWS lists count as statements.
 
 A line counts if it is neither blank nor a comment nor a `use` line; the head of a module with parameters counts once. A definition that
 several lists lead to counts in the first. `Lib.antt` of a folder only lists its modules, and is not looked at.
 
 --print shows the page and writes nothing; --laws shows it with what the laws of lower layers would add that docs/PROMISES.md names. --why
 says by which way a definition, crate/Module.name, is reached. --check writes nothing, and ends with status 1 if the page is not what would be
-written, if something that has to be believed stands outside specs/ and src/, or if nothing in a module under specs/ has to be believed and
-its first line does not say so, by the words "Nobody has to believe this", or if it says so and something has to be."""
+written, if something that has to be believed stands outside specs/ and src/, or if nothing in a module under specs/ has to be believed, nor stands
+behind one of STOPS, and its first line does not say so, by the words "Nobody has to believe this", or if it says so and something has to be."""
 import collections
 import glob
+import itertools
 import os
 import re
 import sys
@@ -28,12 +29,27 @@ from promises import QUOTED, module_files, theorem_modules
 
 ROOT = os.path.dirname(os.path.dirname(os.path.abspath(__file__)))
 PAGE = 'docs/BELIEVED.md'
-# What the code is proved against and the theorems speak of: the box, the report, the reader and its text. And what a theorem says in full, both
-# ways: which command the history reads off the characters (`Replies.accepted-exactly`).
-STOPS = [('crates/controller/specs/Calls.antt', 'call'), ('crates/duration/specs/Report.antt', 'report'), ('crates/reader/specs/Reading.antt', 'readingAs'),
-         ('crates/reader/specs/Listing.antt', 'listing'), ('crates/demands/specs/Said.antt', 'spoken')]
+# where it stops, and why nobody has to believe what stands behind it
+STOPS = {
+    ('crates/controller/specs/Calls.antt', 'call'): 'the box: the code is proved against it, and the theorems say what it does',
+    ('crates/controller/src/lib.rt', 'Controller'): 'the state that passes through the calls: no theorem looks into it but for the output word',
+    ('crates/controller/specs/Controller.antt', 'fresh'): 'the state before the first power-on, in which every other call is refused',
+    ('crates/controller/specs/Invariant.antt', 'Invariant'): 'all that the calls require, and proved to hold always: no promise rests on what it says',
+    ('crates/demands/specs/Said.antt', 'spoken'):
+        'which command the history reads off the characters: `demands/Replies.accepted-exactly` says it in full, both ways',
+    ('crates/duration/specs/Report.antt', 'report'): 'the report: the code is proved against it, and the theorems say what it answers',
+    ('crates/reader/specs/Reading.antt', 'readingAs'): 'the reader of logs, likewise',
+    ('crates/reader/specs/Listing.antt', 'listing'): 'the text of a log, likewise',
+}
 WORDS = 'Nobody has to believe this'
+# the modules of theorems by what they speak of; what is in none of these speaks of the box
+OF_LOGS = ('demands/Possible', 'demands/LogReads', 'demands/MadeByCalls', 'demands/Exactly', 'demands/LogWords', 'reader/ReadBack', 'reader/Reasons')
+OF_DURATIONS = ('duration/Taking', 'duration/Refusing')
+OF_THE_CODE = ('calls/Outcome', 'calls/Kept', 'nizhalepu/Agreement')
 COMPUTED = ('demands/Worked', 'demands/Applied')
+# the modules of rows that the computed theorems speak of
+ROWS = tuple(f'crates/demands/specs/{name}.antt' for name in
+             ('Points', 'CallsTable', 'WireTable', 'VariablesTable', 'RunningTable', 'LogTable', 'Tables', 'Scripts'))
 CALLED = ('crates/calls/src/lib.rt', 'crates/nizhalepu/src/lib.rt', 'crates/durations/src/main.rt')
 
 # a definition, or a type of the sources: where it stands and what it is called
@@ -162,8 +178,8 @@ def binders(text):
 
 
 class Reader:
-    def __init__(self, with_laws=False):
-        self.sources, self.files = Sources(), {}
+    def __init__(self, with_laws=False, stops=STOPS):
+        self.sources, self.files, self.stops = Sources(), {}, stops
         sentence = 'Those of lower layers that docs/PROMISES.md names; what they add.'
         self.more = [('Laws', sentence, stated_in(laws(self)))] if with_laws else []
 
@@ -212,11 +228,13 @@ class Reader:
     def uses(self, what):
         """the names in a definition's own text"""
         if what in self.sources.lines:
-            return list(self.sources.uses(what))
+            return [] if what in self.stops else list(self.sources.uses(what))
         file = self.file(what.path)
         one = file.declared[what.name]
+        if what in self.stops and one.kind in ('record', 'data'):
+            return self.used(file, one.statement[:1], {one.name})
         found_ = self.stated(file, one)
-        if what in STOPS:
+        if what in self.stops:
             return found_
         outer = {name for head in one.modules for name in binders(' '.join(text for _, text in head))}
         for clause in one.clauses:
@@ -320,14 +338,18 @@ def reached(reader, stated, before):
 
 def groups(reader):
     """what is stated, by what it speaks of"""
-    seen = [pair for pair in theorem_modules() if pair[0] == 'demands' and '/'.join(pair) not in COMPUTED]
-    computed = [pair for pair in theorem_modules() if '/'.join(pair) in COMPUTED]
-    other = [pair for pair in theorem_modules() if pair[0] != 'demands']
-    return [('What can be seen of the box', 'The theorems of `demands`, but for the computed points.', stated_in(theorems(reader, seen))),
-            ('Other theorems', 'Those of the report, of the record for C and of one call; what they add.', stated_in(theorems(reader, other))),
-            ('Contracts', 'Those of what is called from outside, the library and the program `durations`; what they add.', contracts(reader)),
-            ('Computed points', 'What `demands/Worked` and `demands/Applied` add: the points, tables and histories that are computed, and the languages that they are written in.',
-             stated_in(theorems(reader, computed)))] + reader.more
+    def of(modules):
+        return stated_in(theorems(reader, [pair for pair in theorem_modules() if '/'.join(pair) in modules]))
+
+    others = OF_LOGS + OF_DURATIONS + OF_THE_CODE + COMPUTED
+    box = [name for name in map('/'.join, theorem_modules()) if name not in others]
+    return [('The box', 'The theorems of `demands` over calls and what is seen of them.', of(box)),
+            ('A log read back', 'The theorems of `reader`, and of `demands` on what a log tells; what they add.', of(OF_LOGS)),
+            ('How long a program takes', 'The theorems of `duration`; what they add.', of(OF_DURATIONS)),
+            ('The code', 'The theorems of `calls` and `nizhalepu`, and the contracts of what is called from outside, the library and the program `durations`; what they add.',
+             itertools.chain(of(OF_THE_CODE), contracts(reader))),
+            ('Computed points', 'What `demands/Worked` and `demands/Applied` add: the languages that the points, tables and histories are written in. These themselves are what is stated.',
+             of(COMPUTED))] + reader.more
 
 
 def shown(path):
@@ -340,7 +362,7 @@ def counted(reader, names):
     """crate/Module: (lines, the names in it), in the order of the layers"""
     lines, listed, heads = collections.Counter(), collections.defaultdict(list), {}
     for what in names:
-        if what not in STOPS:
+        if what not in STOPS and what.path not in ROWS:
             lines[what.path] += reader.lines(what)
             listed[what.path].append(what.name)
             heads.update(reader.heads(what))
@@ -378,30 +400,44 @@ def total(counts):
     return sum(lines for lines, _ in counts.values()), sum(len(names) for _, names in counts.values())
 
 
+def rows(reader, names):
+    """the lines of the rows among these"""
+    return sum(reader.lines(what) for what in names if what.path in ROWS)
+
+
 def page(reader):
     out = ['# What must be believed', '',
            'The definitions that the statements of the theorems lead to, by module. `tools/believed.py` writes this page, and says at its head how it',
-           'reckons; `tools/check` holds the page to it. The box itself, `controller/Calls.call`, is where it stops: the code is proved against it.', '']
-    sums, parts, outside, all_ = [], [], [], collections.Counter()
+           'reckons; `tools/check` holds the page to it. Each part counts what it adds to those before it.', '']
+    sums, parts, outside, all_, known = [], [], [], collections.Counter(), set()
     for heading, sentence, stated, names in measured(reader):
         counts = counted(reader, names)
         lines, many = total(counts)
-        row = collections.Counter(stated=len(stated), long=lines_of(stated), many=many, lines=lines)
+        row = collections.Counter(stated=len(stated), long=lines_of(stated) + rows(reader, names), many=many, lines=lines)
         all_ += row
+        known |= set(names)
         sums.append(f'| {heading} | ' + ' | '.join(str(row[key]) for key in ('stated', 'long', 'many', 'lines')) + ' |')
         parts += [f'## {heading}', '', sentence, ''] + table(counts) + ['', f'Together {many} definitions, {lines} lines.', '']
         outside += [f'{path}: {name}' for path, (_, has) in sorted(counts.items()) for name in has if path.split('/')[2] not in ('specs', 'src')]
     sums.append('| Together | ' + ' | '.join(str(all_[key]) for key in ('stated', 'long', 'many', 'lines')) + ' |')
-    out += ['| What is stated | How many | Their lines | Definitions to believe | Their lines |', '|---|---|---|---|---|'] + sums + ['']
+    out += ['| What is stated | How many | Their lines | Definitions to believe | Their lines |', '|---|---|---|---|---|'] + sums
+    out += ['', 'It stops at these, which are reached and need not be believed:', '', '| Definition | Why |', '|---|---|']
+    out += [f'| {shown(path)[:-1]}.{name}` | {reason} |' for (path, name), reason in STOPS.items() if Name(path, name) in known]
+    behind = {what for _, _, _, names in measured(Reader(stops=())) for what in names} - known | {what for what in known if what in STOPS}
+    out += ['', f'What stands behind these has {sum(map(reader.lines, behind))} lines more: the code is proved against it, and a reader need not hold it against the paper.', '']
     return '\n'.join(out + parts).rstrip() + '\n', outside
+
+
+def modules_reached(reader):
+    return {what.path for _, _, _, names in measured(reader) for what in names}
 
 
 def misnamed(reader):
     """what is wrong with the first lines of modules under specs/"""
-    used = {what.path for _, _, _, names in measured(reader) for what in names}
+    used, behind = modules_reached(reader), modules_reached(Reader(stops=()))
     for path in found('crates/*/specs/*.antt'):
         says = WORDS in read(path).split('\n', 1)[0]
-        if path not in used and not says and not path.endswith('/Lib.antt'):
+        if path not in used | behind and not says and not path.endswith('/Lib.antt'):
             yield f'{path}: nothing in it has to be believed, and its first line does not say "{WORDS}"'
         if path in used and says:
             yield f'{path}: its first line says "{WORDS}", and something in it has to be'

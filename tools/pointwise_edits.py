@@ -247,7 +247,7 @@ def at_points(known, crate, short, lines, one, clause):
             yield from edit('result where', around(test))
         for (_, one_test), (_, two_test) in chance.sample(list(itertools.combinations(found, 2)), min(2, len(found) * (len(found) - 1) // 2)):
             yield from edit('result where both', around(f'{one_test} && {two_test}'))
-    if result == 'ℕ':
+    if result == 'ℕ' and not given(clause).strip().isdigit():
         n = number_for(chance, '', given(clause))
         yield from edit('result that is', wrapped(old, 'let it : ℕ = (', f') in if eqb it {n} then {n + 1} else it'))
     if result == 'List ℕ':
@@ -271,8 +271,8 @@ def at_points(known, crate, short, lines, one, clause):
 # ---- premises
 
 # the definitions that say of which calls a theorem of `demands` speaks
-PREMISES = ('Arrives', 'replacedBy', 'isReplaced', 'Unreplaced', 'isBroken', 'Unbroken', 'counts', 'unpaused', 'isPausing', 'isAnswered', 'hasRead',
-            'hasWritten', 'Unread', 'Unwritten', 'isLentProgram', 'isAccepted', 'HandsOn', 'AllHandOn', 'areOfBytes', 'lendsBytes', 'lendBytes', 'begins',
+PREMISES = ('Arrives', 'replacedBy', 'isReplaced', 'Unreplaced', 'isBroken', 'Unbroken', 'counts', 'unpaused', 'isPausing', 'isTouched', 'Untouched', 'isAnswered',
+            'isRead', 'hasRead', 'hasWritten', 'Unread', 'Unwritten', 'isLentProgram', 'isAccepted', 'HandsOn', 'AllHandOn', 'areOfBytes', 'lendsBytes', 'lendBytes', 'begins',
             'noneBegins', 'Never', 'AllTaken', 'isTaken', 'isError')
 
 # something else that can be asked of a variable of such a type

@@ -47,7 +47,8 @@ from definition_edits import bringing, declared, edits_of, shown, unique
 from pointwise_edits import Known, pointwise, premise_edits
 
 STATEMENTS = 'demands'
-SLOW = ('Worked',)  # modules of it that take long to prove, on which no other stands: in the copy they are a crate of their own, `computed`
+# modules of it that take long to prove, on which no other stands: in the copy they are a crate of their own, `computed`
+SLOW = ('Worked', 'Applied', 'PutToUse')
 OUTSIDE = {'io', 'os', 'libc'}  # what stands on these is a program, or part of one
 SORTS = ('plain', 'pointwise', 'premise')
 PLAN = '140,120,50'  # edits of each sort
@@ -107,7 +108,8 @@ def set_apart(own, other):
     for name in SLOW:
         listed_ = listed_.replace(f'pub mod {name}\n', '')
         with open(f'{own}/proofs/{name}.antt') as source, open(f'{other}/proofs/{name}.antt', 'w') as out:
-            out.write(re.sub(rf'Rattle·{STATEMENTS}·(specs|proofs)\.', rf'Rattle.{STATEMENTS}.', source.read()))
+            out.write(re.sub(rf'Rattle·{STATEMENTS}·(specs|proofs)\.', rf'Rattle.{STATEMENTS}.', re.sub(
+                rf'Rattle\.{STATEMENTS}\.proofs\.({"|".join(SLOW)})\b', r'Rattle.computed.proofs.\1', source.read())))
         os.remove(f'{own}/proofs/{name}.antt')
     with open(f'{own}/proofs/Lib.antt', 'w') as out:
         out.write(listed_)

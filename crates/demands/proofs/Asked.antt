@@ -24,11 +24,12 @@ use Rattle.wire.specs.declared.Asked.{Asked}
 use Rattle.wire.specs.declared.Asked.the-variants.{Read, Write}
 use Rattle.wire.specs.Collecting.{mostChars}
 use Rattle.wire.specs.Command.{commandIn}
-use Rattle.controller.specs.Deeds.{ended, legible}
+use Rattle.controller.specs.Deeds.{legible}
 use Rattle.controller.proofs.Lines.{single-back}
 use Rattle.demands.specs.Capitals.{inCapitals}
 use Rattle.demands.specs.Told.{Told}
 use Rattle.demands.specs.Shown.{shownAt}
+use Rattle.demands.specs.Replies.{ended}
 
 -- what is known of the wire: "a 33rd makes the command overlong", and the last address of each direction
 abbrev pub wireOf : Told → Wire

@@ -8,7 +8,6 @@ use Prim.Native.Nat.{ℕ}
 use borrow.Author.Tests.{leb-true, not-true}
 use Rattle.formats.specs.Checks.{text}
 use Rattle.controller.specs.Controller.{Areas}
-use Rattle.controller.specs.Deeds.{ended}
 use Rattle.demands.specs.Histories.{Made, ending, unpowered, after}
 use Rattle.demands.specs.Seen.{reply, seen}
 use Rattle.demands.specs.Told.{Told, told}
@@ -16,6 +15,7 @@ use Rattle.demands.specs.ReadBack.{Arrives, isReplaced}
 use Rattle.demands.specs.Walks.{asksOf, setOut, madeOf, Trail}
 use Rattle.demands.specs.Premises.{copy, goes, _behind_, oneMore, end}
 use Rattle.demands.specs.Applying.{Back, readsBack}
+use Rattle.demands.specs.Replies.{ended}
 use Rattle.demands.proofs.Telling.{held-as-told}
 use Rattle.demands.proofs.Walked.{
   calls,

@@ -12,12 +12,12 @@ use Rattle.lines.specs.Program.{lineAt}
 use Rattle.lines.proofs.Lines.{fits-good}
 use Rattle.texts.specs.Text.{lineText}
 use Rattle.controller.specs.Controller.{Areas}
-use Rattle.controller.specs.Deeds.{ended}
 use Rattle.demands.specs.Histories.{ending, Made}
 use Rattle.demands.specs.Seen.{reply, seen}
 use Rattle.demands.specs.Told.{told}
 use Rattle.demands.specs.ReadBack.{ReadOf}
 use Rattle.demands.specs.Shown.{shownOf}
+use Rattle.demands.specs.Replies.{ended}
 use Rattle.demands.proofs.Telling.{held-as-told}
 use Rattle.demands.proofs.Replies.{reads-as-told}
 

@@ -16,7 +16,6 @@ use Rattle.lines.proofs.Lines.{is-bad}
 use Rattle.texts.specs.Text.{lineText}
 use Rattle.texts.specs.Text.{Sent}
 use Rattle.controller.specs.Controller.{Areas}
-use Rattle.controller.specs.Deeds.{ended}
 use Rattle.demands.specs.Histories.{Made, ending, powering, unpowered, after}
 use Rattle.demands.specs.Seen.{reply, seen, Note, notes}
 use Rattle.demands.specs.Told.{Told, told, Never}
@@ -25,6 +24,7 @@ use Rattle.demands.specs.FirstSteps.{hasRead, hasWritten}
 use Rattle.demands.specs.Walks.{Act, asksOf, setOut, madeOf, Trail}
 use Rattle.demands.specs.Premises.{copy, goes, _behind_, oneMore, powersAt, end, never}
 use Rattle.demands.specs.Applying.{First, firstBy, Reads, reads}
+use Rattle.demands.specs.Replies.{ended}
 use Rattle.demands.proofs.Walked.{
   calls,
   Reached,

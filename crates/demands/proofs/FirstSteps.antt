@@ -24,7 +24,6 @@ use Rattle.wire.specs.Command.{isRead, addressIn, rest}
 use Rattle.wire.specs.Naming.{byI}
 use Rattle.wire.proofs.Addresses.{none-before}
 use Rattle.controller.specs.Controller.{Areas}
-use Rattle.controller.specs.Deeds.{ended}
 use Rattle.controller.specs.Refusals.{Call}
 use Rattle.controller.specs.Effects.{isEnd, isPowerOn}
 use Rattle.demands.specs.Capitals.{inCapitals}
@@ -36,6 +35,7 @@ use Rattle.demands.specs.Shown.{shownOf}
 use Rattle.demands.specs.Commands.{noAddress}
 use Rattle.demands.specs.ReadBack.{Arrives}
 use Rattle.demands.specs.FirstSteps.{isAnswered, hasRead, hasWritten, Unread, Unwritten}
+use Rattle.demands.specs.Replies.{ended}
 use Rattle.demands.proofs.Telling.{tell-power-on, told-more, held-as-told}
 use Rattle.demands.proofs.Written.{no-read-first, no-write-first}
 use Rattle.demands.proofs.Replies.{reads-as-told, error-answered}

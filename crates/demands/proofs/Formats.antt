@@ -22,8 +22,8 @@ use Rattle.texts.proofs.Texts.{no-error}
 use Rattle.running.specs.declared.Run.{Run}
 use Rattle.variables.specs.declared.Panel.{Panel}
 use Rattle.variables.specs.Variables.{lineOf, isBadAt, value}
-use Rattle.controller.specs.Deeds.{ended}
 use Rattle.demands.specs.Seen.{isError}
+use Rattle.demands.specs.Replies.{ended}
 
 -- ---- what is looked at
 

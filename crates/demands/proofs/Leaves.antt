@@ -19,7 +19,7 @@ use Rattle.wire.specs.declared.Data.{Data}
 use Rattle.wire.specs.declared.Data.the-variants.{WriteLine, WriteOutputs, WriteParameter, WriteSpecial}
 use Rattle.controller.specs.declared.Controller.{Controller}
 use Rattle.controller.specs.Controller.{Areas}
-use Rattle.controller.specs.Deeds.{Deed, moved, startAt, load, save, special, write, writing, answer, ticked, pressed, emptyLog, powerUp, ended, asked}
+use Rattle.controller.specs.Deeds.{Deed, moved, startAt, load, save, special, write, writing, answer, ticked, pressed, emptyLog, powerUp, asked}
 use Rattle.controller.specs.Deeds as Deeds
 use Rattle.controller.specs.Refusals.{Call, powerOn, byte, tick, press, emptying}
 use Rattle.controller.specs.Effects.{finished, isEnd, isEmptying, isPowerOn}
@@ -34,6 +34,7 @@ use Rattle.demands.proofs.Answered.{invariant-always}
 use Rattle.demands.proofs.Agrees.{Hears, anError, aRead, aLine, anOutput, aParameter, aSpecial}
 use Rattle.demands.proofs.Agreement.{silent}
 use Rattle.controller.proofs.Lines.{replyOf}
+use Rattle.demands.specs.Replies.{ended}
 use Rattle.demands.proofs.Heard.{hears}
 use Rattle.demands.proofs.Telling.{held-as-told}
 

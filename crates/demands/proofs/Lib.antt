@@ -46,6 +46,8 @@ pub mod Errors
 pub mod Walked
 pub mod BackApplies
 pub mod RunsApply
+pub mod EndsApply
 pub mod FirstApplies
 pub mod LogsApply
 pub mod Applied
+pub mod PutToUse

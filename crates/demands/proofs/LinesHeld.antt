@@ -26,7 +26,7 @@ use Rattle.wire.proofs.Commands.{read-asked, WritesLine, write-asked}
 use Rattle.controller.specs.declared.Controller.{Controller}
 use Rattle.controller.specs.Controller.{mode, Areas}
 use Rattle.controller.specs.Variables.{lineOf, isBadAt}
-use Rattle.controller.specs.Deeds.{ended, legible, asked, answer}
+use Rattle.controller.specs.Deeds.{legible, asked, answer}
 use Rattle.controller.specs.Deeds as Deeds
 use Rattle.controller.specs.Refusals.{Call, powerOn, byte, tick, press, emptying}
 use Rattle.controller.specs.Effects.{finished, specialCode, writesLine, isPowerOn, replaces}
@@ -40,6 +40,7 @@ use Rattle.demands.specs.Seen.{reply, seenOf, note, notes}
 use Rattle.demands.specs.Said.{Said}
 use Rattle.demands.specs.Told.{Told, said, tell}
 use Rattle.demands.specs.ReadBack.{Arrives, replacedBy, isReplaced, Unreplaced}
+use Rattle.demands.specs.Replies.{ended}
 use Rattle.demands.proofs.Answered.{next-invariant}
 use Rattle.demands.proofs.Steps.{deed, heldThen, Step, passes, fails, stepped, refused-held}
 use Rattle.demands.proofs.Agrees.{Agrees, Hears, anError, aRead, aLine, anOutput, aParameter, aSpecial}

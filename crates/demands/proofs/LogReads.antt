@@ -1,9 +1,9 @@
 -- 02, item 1: "Reading what the box wrote gives the changes and the lost number of that history."
 -- Assumes nothing.
-use mathlib.Core.Path.{_≡_, sym, ap, _∙_}
+use mathlib.Core.Path.{_≡_, sym, ap, subst, _∙_}
 use Prim.Native.Nat.{ℕ}
 use mathlib.Core.Bool.{true}
-use mathlib.Core.List.{List}
+use mathlib.Core.List.{List, map}
 use lib.ListN.{length, take, drop}
 use lib.Seq.{take-at}
 use lib.Dec.{eqb}
@@ -16,10 +16,12 @@ use Rattle.reader.specs.declared.Record.{Record}
 use Rattle.reader.specs.declared.Layout.the-variants.{Sixteen}
 use Rattle.reader.specs.Layout.{layoutOf}
 use Rattle.reader.specs.Reading.{readingAs, reading}
-use Rattle.reader.specs.Listing.{linesOf, printed, listing}
+use Rattle.reader.specs.Listing.{listing}
+use Rattle.reader.specs.ReadBack.{TextRead, numbersOf}
 use Rattle.reader.specs.Produced.{isSize, Produced, recordsFor, Tells}
 use Rattle.reader.proofs.Accepts.{area-size, reads-history}
-use Rattle.reader.proofs.Exactly.{produced-layout}
+use Rattle.reader.proofs.Exactly.{produced-layout, accepts-new}
+use Rattle.reader.proofs.ReadBack.{answer-read}
 use Rattle.controller.specs.Controller.{Areas}
 use Rattle.controller.specs.Refusals.{emptying}
 use Rattle.controller.proofs.Refusals.{accepted-call}
@@ -44,8 +46,8 @@ emptied-size ms a ok =
 
 -- A power-on after any calls, and any calls after it; from it on the caller hands on both areas, and every lent area holds bytes.
 module _ (before : List Made) (lent : Areas) (ms : List Made) (hands : AllHandOn (after unpowered (poweredOn before lent)) ms) where
-  module _ (a : Areas) (hand : HandsOn (after unpowered (sincePowerOn before lent ms)) (emptyingTo a)) (ok : isTaken (seen (sincePowerOn before lent ms) (emptyingTo a)) ≡ true)
-      (bytes : lendBytes (sincePowerOn before lent ms) ≡ true) where
+  module _ (a : Areas) (hand : HandsOn (after unpowered (sincePowerOn before lent ms)) (emptyingTo a))
+      (ok : isTaken (seen (sincePowerOn before lent ms) (emptyingTo a)) ≡ true) (bytes : lendBytes (sincePowerOn before lent ms) ≡ true) where
     abbrev given : List ℕ
     given = emptiedBy (sincePowerOn before lent ms) a
 
@@ -83,10 +85,13 @@ module _ (before : List Made) (lent : Areas) (ms : List Made) (hands : AllHandOn
         let mark : reading given ≡ readingAs Sixteen given = ap (λ m. readingAs m given) given-layout in
         (read .0, mark ∙ ap (readingAs Sixteen) given-is ∙ read .1, read .2)
 
-    -- So their text is a line for each of those changes, and one for the gap.
-    pub emptied-lists : listing (emptiedBy (sincePowerOn before lent ms) a)
-        ≡ linesOf Sixteen
-        (recordsFor Sixteen (places (told (sincePowerOn before lent ms) .logLength)) (changes (sincePowerOn before lent ms)))
-    unfolding listing printed
+    -- So a person who reads their text finds the numbers of each of those changes, line by line, and those of the gap.
+    pub emptied-lists : TextRead (listing (emptiedBy (sincePowerOn before lent ms) a))
+        (map (numbersOf Sixteen)
+        (recordsFor Sixteen (places (told (sincePowerOn before lent ms) .logLength)) (changes (sincePowerOn before lent ms))))
     emptied-lists =
-        ap (λ m. printed m (reading given)) given-layout ∙ ap (printed Sixteen) (emptied-reads .1) ∙ ap (linesOf Sixteen) (emptied-reads .2 .records)
+        let r = emptied-reads in
+        let text : TextRead (listing given) (map (numbersOf (layoutOf given)) (r .0)) =
+        answer-read given (r .0) (accepts-new given .1 emptied-produced .0) (r .1) in
+        subst (λ rs. TextRead (listing given) (map (numbersOf Sixteen) rs)) (r .2 .records)
+        (subst (λ m. TextRead (listing given) (map (numbersOf m) (r .0))) given-layout text)

@@ -86,8 +86,9 @@ module _ (xs : List Made) where
 -- ---- a log that was emptied, and read
 
 module _ (before : List Made) (lent : Areas) (ms : List Made) (hands : AllHandOn (after unpowered (poweredOn before lent)) ms) where
-  module _ (a : Areas) (hand : HandsOn (after unpowered (sincePowerOn before lent ms)) (emptyingTo a)) (ok : isTaken (seen (sincePowerOn before lent ms) (emptyingTo a)) ≡ true)
-      (bytes : lendBytes (sincePowerOn before lent ms) ≡ true) (rs : List Record) (read : reading (emptiedBy (sincePowerOn before lent ms) a) ≡ passed rs) where
+  module _ (a : Areas) (hand : HandsOn (after unpowered (sincePowerOn before lent ms)) (emptyingTo a))
+      (ok : isTaken (seen (sincePowerOn before lent ms) (emptyingTo a)) ≡ true) (bytes : lendBytes (sincePowerOn before lent ms) ≡ true)
+      (rs : List Record) (read : reading (emptiedBy (sincePowerOn before lent ms) a) ≡ passed rs) where
     abbrev R : ℕ
     R = places (told (sincePowerOn before lent ms) .logLength)
 
@@ -102,7 +103,8 @@ module _ (before : List Made) (lent : Areas) (ms : List Made) (hands : AllHandOn
 
     -- The calls zs, after which no change is told yet, as behind each power-on and each emptying that is taken, and those after them, which begin no
     -- list of changes.
-    module _ (zs ys : List Made) (is : (sincePowerOn before lent ms) ≡ zs ++ ys) (fresh : changes zs ≡ []) (none : noneBegins (notes (after unpowered zs) ys) ≡ true) where
+    module _ (zs ys : List Made) (is : sincePowerOn before lent ms ≡ zs ++ ys) (fresh : changes zs ≡ [])
+        (none : noneBegins (notes (after unpowered zs) ys) ≡ true) where
       abbrev from : Change
       from = standing (told zs)
 

@@ -17,13 +17,14 @@ use Rattle.wire.specs.Naming.{Names}
 use Rattle.wire.proofs.Commands.{write-accepted}
 use Rattle.controller.specs.Controller.{mode, Areas}
 use Rattle.controller.specs.Variables.{isBadAt}
-use Rattle.controller.specs.Deeds.{ended, legible}
+use Rattle.controller.specs.Deeds.{legible}
 use Rattle.controller.proofs.Legible.{write-stays}
 use Rattle.controller.proofs.Lines.{replyOf}
 use Rattle.demands.specs.Histories.{ending, Made, Held, unpowered, next, after, HandsOn, AllHandOn}
 use Rattle.demands.specs.Seen.{isTaken, reply, seen, notes}
 use Rattle.demands.specs.Told.{told}
 use Rattle.demands.specs.ReadBack.{Arrives, Unreplaced}
+use Rattle.demands.specs.Replies.{ended}
 use Rattle.demands.proofs.Answered.{invariant-always}
 use Rattle.demands.proofs.Arrived.{arrives-short, arrives-sent, write-length}
 use Rattle.demands.proofs.Heard.{reply-is}

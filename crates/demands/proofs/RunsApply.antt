@@ -67,10 +67,10 @@ module _ (x : Begins) where
   abbrev pub started : Trail
   started = oneMore (goes (x .before)) (asking (x .start))
 
-  at-start : Reached before (goes (x .before) .last)
+  pub at-start : Reached before (goes (x .before) .last)
   at-start = reached-more (reached-none copy) (asksOf (x .before))
 
-  at-started : Reached startedBy (started .last)
+  pub at-started : Reached startedBy (started .last)
   at-started = one-reached at-start (asking (x .start))
 
   start-taken : nth 0 (begins x (goes (x .before))) ≡ true → isTaken (seen before startCall) ≡ true
@@ -121,11 +121,11 @@ module _ (x : Runs) where
   abbrev pub now : List Made
   now = startedBy s ++ ms
 
-  at-now : Reached now (l .last)
+  pub at-now : Reached now (l .last)
   at-now = reached-more (at-started s) (asksOf (x .later))
 
   -- the tick after it
-  abbrev t : Areas
+  abbrev pub t : Areas
   t = madeOf (asking tickCall) (l .last) .areas
 
   abbrev ruledNow : Run
@@ -165,10 +165,10 @@ module _ (x : Runs) where
     unbroken = unbroken-so s (asksOf (x .later)) (at 4)
 
     -- the theorems' course of calls
-    abbrev c : Course
+    abbrev pub c : Course
     c = record { before = p; starting = q; line = s .line; later = ms }
 
-    so : Started c
+    pub so : Started c
     so = record { taken = taken; begins = start-at; hands = hands; unbroken = unbroken }
 
     -- the count of the theorem is the script's, and its run the one that was tested
@@ -183,7 +183,7 @@ module _ (x : Runs) where
     tested : ruled c ≡ ruledNow
     tested = ap (λ n. ticks (programOf c) n (startOf c .run)) count-is ∙ ruled-is (x .count)
 
-    on : ruled c .on ≡ true
+    pub on : ruled c .on ≡ true
     unfolding runs begins
     on =
         ap (λ (r : Run). r .on) (ap (λ n. ticks (programOf c) n (startOf c .run)) (count-reached (at-started s) (asksOf (x .later))) ∙ ruled-is _) ∙ at 5
@@ -200,7 +200,7 @@ module _ (x : Runs) where
     unfolding runs begins
     tick-unpaused = ap (λ (y : Told). y .paused) (at-now .told) ∙ not-true _ (at 6)
 
-    next : Ticks c t
+    pub next : Ticks c t
     next = record { taken = tick-taken; hands = tick-hand; unpaused = tick-unpaused }
 
     pub runs-apply : RunsSo
@@ -254,10 +254,10 @@ module _ (x : AtOnce) (ok : AllTrue (atOnce x)) where
   once-hands : AllHandOn (after unpowered (before r)) (startCall r ∷ [])
   once-hands = (hand-reached (at-start r) (r .start) 16, tt)
 
-  abbrev once : Course
+  abbrev pub once : Course
   once = record { before = before r; starting = startCall r; line = r .line; later = [] }
 
-  once-so : Started once
+  pub once-so : Started once
   unfolding notes
   once-so = record { taken = once-taken; begins = once-starts; hands = once-hands; unbroken = tt }
 

@@ -27,7 +27,7 @@ use Rattle.wire.proofs.Commands.{data-accepted}
 use Rattle.formats.specs.Bytes.{areBytes}
 use Rattle.controller.specs.declared.Controller.{Controller}
 use Rattle.controller.specs.Controller.{mode, withWire, withLog}
-use Rattle.controller.specs.Deeds.{legible, Deed, asked, answer, write, writing, wroteTo, emptyCollection, ended}
+use Rattle.controller.specs.Deeds.{legible, Deed, asked, answer, write, writing, wroteTo, emptyCollection}
 use Rattle.controller.specs.Deeds as Deeds
 use Rattle.controller.specs.Variables.{isBadAt}
 use Rattle.controller.proofs.Legible.{write-stays}
@@ -42,6 +42,7 @@ use Rattle.demands.specs.Sent.{lentBy, making}
 use Rattle.demands.specs.Seen.{note}
 use Rattle.demands.specs.Told.{Told}
 use Rattle.demands.specs.Changes.{sinceCall}
+use Rattle.demands.specs.Replies.{ended}
 use Rattle.demands.proofs.Agrees.{Agrees}
 use Rattle.demands.proofs.Changing.{changing}
 use Rattle.demands.proofs.Collects.{Collects, nothing-collected, byte-collects, sent-whole}

@@ -7,7 +7,7 @@ use mathlib.Core.List.{List, [], _∷_, _++_}
 use lib.ListN.{length}
 use lib.Dec.{eqb, leb, ltb}
 use Rattle.formats.specs.Checks.{if_then_else_, Res, refused, passed, text, same, all}
-use Rattle.formats.specs.Digits.{errorText}
+use Rattle.formats.specs.Digits.{errorText, d}
 use Rattle.lines.specs.Line.{isBad}
 use Rattle.lines.specs.Program.{lineAt}
 use Rattle.duration.specs.Report.{report}
@@ -15,17 +15,17 @@ use Rattle.reader.specs.declared.Record.{Record}
 use Rattle.reader.specs.Reading.{reading}
 use Rattle.reader.specs.Words.{isOutsideGap}
 use Rattle.wire.specs.Collecting.{mostChars}
-use Rattle.controller.specs.Deeds.{ended}
 use Rattle.controller.specs.Refusals.{Call, tick, emptying}
 use Rattle.demands.specs.Seen.{isTaken, reply, Note}
 use Rattle.demands.specs.Told.{Told, said, starts}
 use Rattle.demands.specs.ReadBack.{isReplaced}
-use Rattle.demands.specs.Undisturbed.{isBroken, isPausing}
+use Rattle.demands.specs.Undisturbed.{isBroken, isPausing, isTouched}
 use Rattle.demands.specs.FirstSteps.{hasRead, hasWritten}
 use Rattle.demands.specs.Changes.{noneBegins}
 use Rattle.demands.specs.Walks.{Act, own, Ask, asking, madeOf, Trail, isAsSaid}
 use Rattle.demands.specs.Premises.{never, handsOn, counted, arrives, names, isGiven, isSome, goes, _behind_, oneMore}
 use Rattle.demands.specs.Premises.{seenAt, end, powersAt, noteAt, notesIn, lendsMoment, ruledAt}
+use Rattle.demands.specs.Replies.{ended}
 
 -- ---- `ReadsBack.reads-back`, `line-accepted`
 
@@ -150,6 +150,39 @@ atOnce x =
     ∷ isAsSaid (x .found) (e .moments)
     ∷ []
     )
+
+-- Then come calls that touch nothing of the end. `atLine` ends with the characters of a read of 211, which is answered with `line`; `atEvent`, or else it,
+-- with those of a read of 212: 014, or 011.
+pub record EndRead : Type 0 where
+  pub atLine : List Act
+  pub line : ℕ
+  pub atEvent : List Act
+  pub isOnBad : Bool
+
+unfoldable pub readsEnd : Trail → EndRead → List Bool
+readsEnd g x =
+    let l = g behind x .atLine in
+    let e = g behind x .atEvent in
+    not (g .last .told .run .on)
+    ∷ leb (x .line) 199
+    ∷ never isTouched (l .moments)
+    ∷ arrives (l .last .told) (text "CR" ++ text "211")
+    ∷ isTaken (seenAt l end)
+    ∷ same (reply (seenAt l end)) (ended (d (x .line)))
+    ∷ never isTouched (e .moments)
+    ∷ arrives (e .last .told) (text "CR" ++ text "212")
+    ∷ isTaken (seenAt e end)
+    ∷ same (reply (seenAt e end)) (ended (text (if x .isOnBad then "014" else "011")))
+    ∷ isAsSaid (x .atLine) (l .moments)
+    ∷ isAsSaid (x .atEvent) (e .moments)
+    ∷ []
+
+-- the start that ends it at once, and the tick that ends it
+abbrev pub atStart : AtOnce → Trail
+atStart x = oneMore (goes (x .begins .before)) (asking (x .begins .start))
+
+abbrev pub atTick : Runs → Trail
+atTick x = oneMore (oneMore (goes (x .begins .before)) (asking (x .begins .start)) behind x .later) (asking tick)
 
 -- `ByTheRules.pauses-only`: of calls none of which breaks the program off or pauses
 unfoldable pub pausesNot : Runs → List Bool
@@ -286,6 +319,8 @@ pub data Script : Type 0 where
   running : Ends → Runs → Script
   unpausing : Runs → Script
   ending : AtOnce → Script
+  startShown : AtOnce → EndRead → Script
+  tickShown : Runs → EndRead → Script
   firstRead : First → Script
   firstWrite : String → First → Script
   logging : Logs → Script
@@ -297,6 +332,8 @@ testsOf (back x) = readsBack x
 testsOf (running e x) = runs x ++ endsSo e x
 testsOf (unpausing x) = pausesNot x
 testsOf (ending x) = atOnce x
+testsOf (startShown x e) = atOnce x ++ readsEnd (atStart x) e
+testsOf (tickShown x e) = runs x ++ readsEnd (atTick x) e
 testsOf (firstRead x) = firstBy x "CR" "" hasRead
 testsOf (firstWrite line x) = firstBy x "CW" line hasWritten ++ (same (text (x .reply)) (text "OK") ∷ [])
 testsOf (logging x) = logs x

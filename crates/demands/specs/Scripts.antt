@@ -6,8 +6,8 @@ use Rattle.controller.specs.Refusals.{powerOn, byte, tick, press, emptying}
 use Rattle.demands.specs.Exchanges.{change, gap}
 use Rattle.demands.specs.CallsTable.{lent}
 use Rattle.demands.specs.Walks.{Act, _⇒_, lends, gives, powers}
-use Rattle.demands.specs.Applying.{Back, Runs, onTime, onBad, goesOn, AtOnce, First, Logs, Reads, Script}
-use Rattle.demands.specs.Applying.{back, running, unpausing, ending, firstRead, firstWrite, logging, listing, oneRead}
+use Rattle.demands.specs.Applying.{Back, Runs, onTime, onBad, goesOn, AtOnce, EndRead, First, Logs, Reads, Script}
+use Rattle.demands.specs.Applying.{back, running, unpausing, ending, startShown, tickShown, firstRead, firstWrite, logging, listing, oneRead}
 
 -- ---- calls that are refused, where the log has 64 bytes and holds a record
 
@@ -187,6 +187,41 @@ onBadLine = record {
   found = "CR201^CR211^CR212^CR206^" ⇒ "80^007^014^01^" ∷ [];
 }
 
+-- ---- what is read when a program has ended
+
+-- on the end mark of 000, with calls of each kind after it that touch nothing of the end
+abbrev pub atEndMark : AtOnce
+atEndMark = record {
+  begins = record { before = powers 64 ∷ "CW20601^" ⇒ "OK^" ∷ []; start = press 1; line = 0 };
+  isOnBad = false;
+  found = [];
+}
+
+abbrev pub endMarkRead : EndRead
+endMarkRead = record {
+  atLine =
+      "#%CR201^CR206^CR211^CR213^CRI^CRD^CR200^CR202^CR208^CR209^CR210^" ⇒ "80^00^000^0000^0000^0000^S00000000000000^00^000^000^000^"
+      -- lines, the parameter, a load and a save; errors
+      ∷ "CW000S00000000070001^CWIN1^CW200N1^CW209200^CW210007^CW210008^CR000^" ⇒ "OK^OK^OK^OK^OK^OK^S00000000000000^"
+      ∷ "^CR^XR211^CW005^CW005X^CR217^CW201N1^CR007^CW210002^CW210004^CW210005^CW210009^CW20^" ⇒
+      "E001^E001^E002^E002^E003^E004^E004^E024^E022^E021^E023^E003^E002^"
+      ∷ []
+      -- refused calls, a read of 212 that is finished by none of them, and an emptying
+      ++ (others ++ ("CR212" ⇒ "" ∷ [] ++ (ends ++ ("X^" ⇒ "E002^" ∷ gives (change 255 0 1 0 ++ change 0 0 0 1) ∷ "c#R%2 1 1" ⇒ "" ∷ []))));
+  line = 0;
+  atEvent = "#%CR211^CW209007^" ⇒ "000^OK^" ∷ "cr 2 1#2" ⇒ "" ∷ [];
+  isOnBad = false;
+}
+
+-- on the Bad line of 007, which `byParameter` comes to; a read by D has arrived
+abbrev pub badLineRead : EndRead
+badLineRead = record {
+  atLine = "^CR201^#CW000N2^" ⇒ "007^80^OK^" ∷ "%c r 211" ⇒ "" ∷ [];
+  line = 7;
+  atEvent = "^CR206^" ⇒ "007^09^" ∷ lends tick (lent 1600 0 33 0) 31 ∷ "CR2 12" ⇒ "" ∷ [];
+  isOnBad = true;
+}
+
 -- ---- the first address after a power-on
 
 -- nothing is read, whatever is written; a second power-on comes among the calls, and one that is refused
@@ -308,6 +343,8 @@ scripts =
     ∷ unpausing byButton
     ∷ ending onEndMark
     ∷ ending onBadLine
+    ∷ startShown atEndMark endMarkRead
+    ∷ tickShown byParameter badLineRead
     ∷ firstRead unread
     ∷ firstWrite "S00FFFFFFFF9999" unwritten
     ∷ logging twoLogs

@@ -29,7 +29,7 @@ unpaused t (n ∷ ns) = counts t n + unpaused (tell t n) ns
 unfoldable pub isPausing : Told → Note → Bool
 isPausing t n = isTaken (n .seen) && (eqb (given (said t n)) 2 || eqb (given (said t n)) 4 || isPress 2 (n .call))
 
--- After a program has ended: power-on is called, or a program is started, a line executed, an output written, or the event read.
+-- After a program has ended: power-on is called, Start/Stop is pressed, one of 001-006 is accepted, an output is written, or the event is read.
 unfoldable pub isTouched : Told → Note → Bool
 isTouched t n =
     let s = said t n in

@@ -1,4 +1,4 @@
--- What an end says of the line at which it came.
+-- What an end says of the line at which it came. Nobody has to believe this: `demands/Started.ShowsEnd` says it of what is read.
 -- 02, item 4: "A bad stored line must not look like an end."
 use Prim.Native.Nat.{ℕ, _≤_}
 use mathlib.Core.Path.{_≡_}
