@@ -247,7 +247,7 @@ def at_points(known, crate, short, lines, one, clause):
             yield from edit('result where', around(test))
         for (_, one_test), (_, two_test) in chance.sample(list(itertools.combinations(found, 2)), min(2, len(found) * (len(found) - 1) // 2)):
             yield from edit('result where both', around(f'{one_test} && {two_test}'))
-    if result == 'ℕ' and not given(clause).strip().isdigit():
+    if result == 'ℕ' and not re.fullmatch(r'(0x[0-9A-F]+|\d+)', given(clause).strip()):
         n = number_for(chance, '', given(clause))
         yield from edit('result that is', wrapped(old, 'let it : ℕ = (', f') in if eqb it {n} then {n + 1} else it'))
     if result == 'List ℕ':

@@ -10,7 +10,7 @@ use borrow.Author.Tests.{eqb-true, ne-eqb, ltb-true, ltb-false, lt-leb}
 use Rattle.formats.specs.Checks.{all, text}
 use Rattle.formats.proofs.Checks.{both-true, and-false, below}
 use Rattle.wire.specs.Collecting.{capital}
-use Rattle.demands.specs.Capitals.{under, countsAs, inCapitals}
+use Rattle.demands.specs.Capitals.{under, small, capitals, countsAs, inCapitals}
 
 -- a character behind all of a row does not stand in it
 beyond : (n c : ℕ) → n ≤ c → (xs ys : List ℕ) → all (λ x. ltb x n) xs ≡ true → under xs ys c ≡ c
@@ -30,7 +30,7 @@ counts-as c = go (ltb c 123) refl
     go true e = eqb-true (capital c) (countsAs c) (below (λ j. eqb (capital j) (countsAs j)) 123 refl c (ltb-true c 123 e))
     go false e =
         let le : 123 ≤ c = ltb-false c 123 e in
-        rw (lt-leb c 122 (omega arith), and-false (leb 97 c), beyond 123 c le (text "abcdefghijklmnopqrstuvwxyz") (text "ABCDEFGHIJKLMNOPQRSTUVWXYZ") refl)
+        rw (lt-leb c 122 (omega arith), and-false (leb 97 c), beyond 123 c le small capitals refl)
 
 pub capitals-same : (cs : List ℕ) → map capital cs ≡ inCapitals cs
 capitals-same [] = refl

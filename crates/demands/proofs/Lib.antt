@@ -47,6 +47,7 @@ pub mod Walked
 pub mod BackApplies
 pub mod RunsApply
 pub mod EndsApply
+pub mod Excluded
 pub mod FirstApplies
 pub mod LogsApply
 pub mod Applied

@@ -10,8 +10,14 @@ under [] ys c = c
 under (x ∷ xs) [] c = c
 under (x ∷ xs) (y ∷ ys) c = if eqb c x then y else under xs ys c
 
+abbrev pub small : List ℕ
+small = text "abcdefghijklmnopqrstuvwxyz"
+
+abbrev pub capitals : List ℕ
+capitals = text "ABCDEFGHIJKLMNOPQRSTUVWXYZ"
+
 unfoldable pub countsAs : ℕ → ℕ
-countsAs c = under (text "abcdefghijklmnopqrstuvwxyz") (text "ABCDEFGHIJKLMNOPQRSTUVWXYZ") c
+countsAs c = under small capitals c
 
 abbrev pub inCapitals : List ℕ → List ℕ
 inCapitals cs = map countsAs cs
