@@ -6,12 +6,11 @@ use mathlib.Core.Path.{_≡_, refl, sym, ap, _∙_}
 use mathlib.Core.Logic.{_≢_}
 use mathlib.Core.Bool.{Bool, true, false, false≢true}
 use mathlib.Core.List.{List}
-use lib.Dec.{eqb, ltb, leb}
-use borrow.Author.Tests.{eqb-true, eqb-false, ltb-true, lt-ltb, leb-true}
+use lib.Dec.{eqb, ltb}
+use borrow.Author.Tests.{eqb-true, eqb-false, ltb-true, lt-ltb}
 use Rattle.formats.proofs.Checks.{both-true}
 use Rattle.lines.specs.declared.Line.{Line}
 use Rattle.lines.specs.declared.Line.the-variants.{State, For, Next, Bad}
-use Rattle.lines.specs.Line.{isCounter}
 use Rattle.lines.specs.Program.{lineAt, nextAfter, FirstFrom}
 use Rattle.lines.proofs.Places.{line-ranged}
 use Rattle.lines.proofs.Search.{next-first, first-next, none-next, next-none}
@@ -36,14 +35,11 @@ same-next e = ap named e
     named Bad = 0
 
 -- a counter is 1 to 4
-ranged : (c : ℕ) → isCounter c ≡ true → (1 ≤ c) × (c ≤ 4)
-ranged c e = let b = both-true (leb 1 c) (leb c 4) e in (leb-true 1 c (b .0), leb-true c 4 (b .1))
-
 pub counter-ranged : (p : List ℕ) (k c x : ℕ) → lineAt p k ≡ For c x → (1 ≤ c) × (c ≤ 4)
-counter-ranged p k c x is = let r = rw is at (line-ranged p k) in ranged c (r .range .0)
+counter-ranged p k c x is = let r = rw is at (line-ranged p k) in r .range .0
 
 pub next-ranged : (p : List ℕ) (k c : ℕ) → lineAt p k ≡ Next c → (1 ≤ c) × (c ≤ 4)
-next-ranged p k c is = let r = rw is at (line-ranged p k) in ranged c (r .range)
+next-ranged p k c is = let r = rw is at (line-ranged p k) in r .range
 
 -- ---- a For and its Next
 

@@ -1,7 +1,7 @@
 -- A number in bytes and back, and the numbers that bytes of a list are.
 -- Assumes nothing.
-use mathlib.Core.Path.{_≡_}
-use Prim.Native.Nat.{ℕ, suc, _+_, _^_, _≤_, _<_}
+use mathlib.Core.Path.{_≡_, ap₂}
+use Prim.Native.Nat.{ℕ, suc, _+_, _/_, _%_, _^_, _≤_, _<_}
 use mathlib.Core.Bool.{true}
 use mathlib.Core.List.{List, [], _∷_}
 use lib.ListN.{length, drop, getD, length-take}
@@ -9,7 +9,7 @@ use lib.Seq.{drop-cons}
 use native.Mathlib.Omega.{arith}
 use native.Mathlib.Nat.{lt-of-lt-of-le, pow-le-pow-right}
 use Rattle.formats.specs.Checks.{all}
-use Rattle.formats.specs.Digits.{number}
+use Rattle.formats.specs.Digits.{digits, number}
 use Rattle.formats.specs.Bytes.{part, field, bytes}
 use Rattle.formats.proofs.Checks.{all-take, all-drop}
 use Rattle.formats.proofs.Parts.{length-part}
@@ -18,6 +18,14 @@ use Rattle.formats.proofs.Digits.{isBelow, number-below, number-digits,
 -- a number that fits n bytes is what they stand for
 pub number-bytes : (n v : ℕ) → v < 256 ^ n → number 256 (bytes n v) ≡ v
 number-bytes n v lt = number-digits 256 (omega arith) n v lt
+
+-- the four bytes of a number, "high byte first"
+pub four-are : (v : ℕ) → bytes 4 v ≡ v / 16777216 % 256 ∷ v / 65536 % 256 ∷ v / 256 % 256 ∷ v % 256 ∷ []
+unfolding digits
+four-are v =
+    let a : v / 256 / 256 / 256 % 256 ≡ v / 16777216 % 256 = omega arith in
+    let b : v / 256 / 256 % 256 ≡ v / 65536 % 256 = omega arith in
+    ap₂ (λ x y. x ∷ y ∷ v / 256 % 256 ∷ v % 256 ∷ []) a b
 
 -- bytes in a row are a number that fits them
 pub field-below : (i n : ℕ) (bs : List ℕ) → all (isBelow 256) bs ≡ true → field i n bs < 256 ^ n

@@ -1,6 +1,7 @@
 pub mod Checks
 pub mod Digits
 pub mod Characters
+pub mod Worth
 pub mod Loops
 pub mod NumbersRead
 pub mod Parts

@@ -16,15 +16,22 @@ use Rattle.formats.proofs.Digits.{isBelow, digits-below}
 use Rattle.formats.proofs.Bytes.{number-bytes, field-below}
 use Rattle.lines.specs.declared.Line.{Line}
 use Rattle.lines.specs.declared.Line.the-variants.{State, For, Next, Bad}
-use Rattle.lines.specs.Line.{isCounter, isState, isFor, isNext, isBad, setBy, readLine, bytesOf, Ranges, Fits}
+use Rattle.lines.specs.Line.{isCounter, isState, isFor, isNext, isBad, setBy, readLine, bytesOf, OneToFour, Ranges, Fits}
 
 -- ---- the ranges
 
 pub record Ranged (l : Line) : Type 0 where
   pub range : Ranges l
 
+-- the test of a counter says that it is 1 to 4, both ways
+pub counter-is : (c : ℕ) → isCounter c ≡ true → OneToFour c
+counter-is c e = let b = both-true (leb 1 c) (leb c 4) e in (leb-true 1 c (b .0), leb-true c 4 (b .1))
+
+pub counter-so : (c : ℕ) → OneToFour c → isCounter c ≡ true
+counter-so c x = rw (le-leb 1 c (x .0), le-leb c 4 (x .1))
+
 for-ranged : {c n : ℕ} → isCounter c ≡ true → n ≤ 9999 → Ranged (For c n)
-for-ranged e le = record { range = (e, le) }
+for-ranged {c} e le = record { range = (counter-is c e, le) }
 
 -- Whatever the eight bytes are, the line that they are read as lies in the ranges.
 pub read-ranged : (bs : List ℕ) → Ranged (readLine bs)
@@ -42,7 +49,7 @@ read-ranged bs =
     if-case Ranged (isNext bs)
     (λ e.
     let p = both-true (eqb first 0x4E && isCounter second) _ e in
-    record { range = both-true (eqb first 0x4E) (isCounter second) (p .0) .1 }) λ _.
+    record { range = counter-is second (both-true (eqb first 0x4E) (isCounter second) (p .0) .1) }) λ _.
     record { range = tt }
 
 -- ---- a line written and read
@@ -69,8 +76,8 @@ two v le = number-bytes 2 v (omega arith)
 pub bytes-back : (l : Line) (r : List ℕ) → Fits l → readLine (bytesOf l ++ r) ≡ l
 unfolding readLine bytesOf digits numberAfter
 bytes-back (State o t) r f = let a = number-bytes 4 o (f .0) in let b = two t (f .1) in rw (a, b, le-leb t 9999 (f .1))
-bytes-back (For c n) r f = let b = two n (f .1) in rw (f .0, b, le-leb n 9999 (f .1))
-bytes-back (Next c) r f = rw f
+bytes-back (For c n) r f = let b = two n (f .1) in rw (counter-so c (f .0), b, le-leb n 9999 (f .1))
+bytes-back (Next c) r f = rw (counter-so c f)
 bytes-back Bad r f = absurd f
 
 pub length-bytes : (l : Line) → length (bytesOf l) ≡ 8
@@ -81,8 +88,8 @@ length-bytes (Next c) = refl
 length-bytes Bad = refl
 
 -- a loop counter is a byte
-counter-byte : (c : ℕ) → isCounter c ≡ true → ltb c 256 ≡ true
-counter-byte c e = lt-ltb c 256 (omega (arith, leb-true c 4 (both-true (leb 1 c) (leb c 4) e .1)))
+counter-byte : (c : ℕ) → OneToFour c → ltb c 256 ≡ true
+counter-byte c x = lt-ltb c 256 (omega (arith, x .1))
 
 -- A line is stored in bytes.
 pub line-bytes : (l : Line) → Ranged l → all (isBelow 256) (bytesOf l) ≡ true

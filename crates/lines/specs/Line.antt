@@ -1,7 +1,6 @@
 -- Eight bytes as a line, and a line as eight bytes.
 -- 01, 'Variables': "A line is 8 bytes. [...] Times and counts are at most 9999." 02, item 4: "Reading eight bytes now answers State, For, Next or Bad".
 use Prim.Native.Nat.{ℕ, _^_, _≤_, _<_}
-use mathlib.Core.Path.{_≡_}
 use mathlib.Core.Bool.{Bool, true, false, _&&_}
 use mathlib.Core.List.{List, _∷_, _++_}
 use lib.ListN.{getD, replicate}
@@ -59,16 +58,20 @@ bytesOf (For counter count) = 0x46 ∷ counter ∷ (bytes 2 count ++ replicate 4
 bytesOf (Next counter) = 0x4E ∷ counter ∷ replicate 6 0
 bytesOf Bad = replicate 8 0
 
+-- "loop counter not 1-4"
+abbrev pub OneToFour : ℕ → Type 0
+OneToFour c = (1 ≤ c) × (c ≤ 4)
+
 -- "Times and counts are at most 9999", "loop counter [...] 1-4"
 abbrev pub Ranges : Line → Type 0
 Ranges (State outputs time) = time ≤ 9999
-Ranges (For counter count) = (isCounter counter ≡ true) × (count ≤ 9999)
-Ranges (Next counter) = isCounter counter ≡ true
+Ranges (For counter count) = OneToFour counter × (count ≤ 9999)
+Ranges (Next counter) = OneToFour counter
 Ranges Bad = Unit {0}
 
 -- the values that the wire and the eight bytes can hold; a Bad line has none
 abbrev pub Fits : Line → Type 0
 Fits (State outputs time) = (outputs < 256 ^ 4) × (time ≤ 9999)
-Fits (For counter count) = (isCounter counter ≡ true) × (count ≤ 9999)
-Fits (Next counter) = isCounter counter ≡ true
+Fits (For counter count) = OneToFour counter × (count ≤ 9999)
+Fits (Next counter) = OneToFour counter
 Fits Bad = ⊥

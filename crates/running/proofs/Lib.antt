@@ -1,5 +1,6 @@
 pub mod Ways
 pub mod Waiting
+pub mod Parts
 pub mod Steps
 pub mod Invariant
 pub mod Turns

@@ -8,14 +8,11 @@ use mathlib.Core.Bool.{Bool, true, false, true≢false}
 use mathlib.Core.List.{List, [], _∷_}
 use lib.ListN.{set}
 use lib.Seq.{set-getD}
-use lib.Dec.{leb}
-use borrow.Author.Tests.{leb-true}
 use types.Run.{OneOf, miss}
 use denote.Enum.Declared.{tagOf}
-use Rattle.formats.proofs.Checks.{both-true}
 use Rattle.lines.specs.declared.Line.{Line}
 use Rattle.lines.specs.declared.Line.the-variants.{State, For, Next, Bad}
-use Rattle.lines.specs.Line.{isCounter}
+use Rattle.lines.specs.Line.{OneToFour}
 use Rattle.lines.specs.Program.{lineAt}
 use Rattle.lines.proofs.Line as L
 use Rattle.lines.proofs.Lines.{Ranged}
@@ -42,11 +39,10 @@ pub record Named (l : Line) : Type 0 where
   pub counted : counterOf l ≢ 0 → isForOrNext l ≡ true
   pub uncounted : counterOf l ≡ 0 → isForOrNext l ≡ false
 
-some-named : (l : Line) (c : ℕ) → counterOf l ≡ c → isCounter c ≡ true → isForOrNext l ≡ true → Named l
-some-named l c is e counts =
-    let range = both-true (leb 1 c) (leb c 4) e in
-    let least = leb-true 1 c (range .0) in
-    record { most = omega (arith, leb-true c 4 (range .1)); counted = λ _. counts; uncounted = λ none. absurd (omega arith) }
+some-named : (l : Line) (c : ℕ) → counterOf l ≡ c → OneToFour c → isForOrNext l ≡ true → Named l
+some-named l c is x counts =
+    let least : 1 ≤ c = x .0 in
+    record { most = omega (arith, x .1); counted = λ _. counts; uncounted = λ none. absurd (omega arith) }
 
 named : (l : Line) → Ranged l → Named l
 named (State o t) q = record { most = omega arith; counted = λ some. absurd (some refl); uncounted = λ _. refl }

@@ -1,3 +1,4 @@
 pub mod Texts
 pub mod LinesRead
 pub mod LineReader
+pub mod Forms

@@ -7,20 +7,20 @@ use mathlib.Core.Bool.{Bool, true, false, true≢false}
 use mathlib.Core.List.{List, [], _∷_, _++_, append-nil}
 use lib.ListN.{length, take, drop, getD, length-append, take-append-drop}
 use lib.Seq.{drop-drop, drop-cons, drop-length, take-at, drop-at, take-all}
-use lib.Dec.{eqb, leb, ltb}
+use lib.Dec.{eqb, ltb}
 use native.Mathlib.Omega.{arith}
-use borrow.Author.Tests.{eqb-true, ltb-true, leb-true}
+use borrow.Author.Tests.{eqb-true, ltb-true}
 use Rattle.formats.specs.Checks.{Res, refused, passed, _>>=_, _>>_, _orElse_, text, Ok}
 use Rattle.formats.specs.Digits.{shown, numberIn}
-use Rattle.formats.proofs.Checks.{if-case, both-true, ok-bind, ok-guard, Err, err-bind, err-guard}
+use Rattle.formats.proofs.Checks.{if-case, ok-bind, ok-guard, Err, err-bind, err-guard}
 use Rattle.formats.proofs.Characters.{length-shown, shown-back, read-shows, read-fits, number-err}
 use Rattle.formats.proofs.Parts.{length-part}
 use Rattle.lines.specs.declared.Line.{Line}
 use Rattle.lines.specs.declared.Line.the-variants.{State, For, Next, Bad}
 use Rattle.formats.specs.Bytes.{part}
-use Rattle.lines.specs.Line.{isCounter, isBad, Fits}
+use Rattle.lines.specs.Line.{isCounter, isBad, OneToFour, Fits}
 use Rattle.texts.specs.Text.{lineText, lineLength, counterIn, stateIn, forIn, nextIn, lineIn, Sent}
-use Rattle.lines.proofs.Lines.{fits-good}
+use Rattle.lines.proofs.Lines.{fits-good, counter-is, counter-so}
 
 -- ---- parts of the characters
 
@@ -90,14 +90,14 @@ module _ (cs : List ℕ) (some : 0 < length cs) where
       ok-bind (Sent cs) (Read 10 4 (part 2 4 cs)) _ _ (part-read 10 2 4 cs (omega arith) (omega arith) (omega arith)) λ m hm.
       record {
         shows = rw (hk .read .shows, hm .shows) (begins c (part-and-rest 1 1 2 cs refl ∙ ap (λ r. part 1 1 cs ++ r) (last-part 2 4 cs (sym n))));
-        fits = (hk .inRange, omega (arith, hm .fits));
+        fits = (counter-is k (hk .inRange), omega (arith, hm .fits));
       }
 
   next-sent : getD cs 0 0 ≡ code "N" → length cs ≡ 2 → Ok (Sent cs) (nextIn cs)
   unfolding nextIn lineText text
   next-sent c n =
       ok-bind (Sent cs) (CounterRead (part 1 1 cs)) _ _ (counter-read cs (omega arith)) λ k hk.
-      record { shows = rw (hk .read .shows) (begins c (last-part 1 1 cs (sym n))); fits = hk .inRange }
+      record { shows = rw (hk .read .shows) (begins c (last-part 1 1 cs (sym n))); fits = counter-is k (hk .inRange) }
 
   -- the letter that is left
   is-next : eqb (getD cs 0 0) (code "S") ≡ false → eqb (getD cs 0 0) (code "F") ≡ false → 0 < lineLength (getD cs 0 0) → getD cs 0 0 ≡ code "N"
@@ -160,12 +160,9 @@ module _ (base₁ base₂ m n x y : ℕ) where
   second-of-two : take n (drop m (shown base₁ m x ++ shown base₂ n y)) ≡ shown base₂ n y
   second-of-two = rw (drop-at (shown base₁ m x) (shown base₂ n y) m (length-shown base₁ m x)) (whole base₂ n y)
 
-counter-below : (c : ℕ) → isCounter c ≡ true → c < 10 ^ 1
-counter-below c e = omega (arith, leb-true c 4 (both-true (leb 1 c) (leb c 4) e .1))
-
-counter-back : (c : ℕ) → isCounter c ≡ true → counterIn (shown 10 1 c) ≡ passed c
+counter-back : (c : ℕ) → OneToFour c → counterIn (shown 10 1 c) ≡ passed c
 unfolding counterIn _>>=_ _>>_ _orElse_
-counter-back c e = rw (shown-back 10 (omega arith) (omega arith) 3 1 c (counter-below c e), e)
+counter-back c x = rw (shown-back 10 (omega arith) (omega arith) 3 1 c (omega (arith, x .1)), counter-so c x)
 
 decimal-back : (n v : ℕ) → v < 10 ^ n → numberIn 10 3 (shown 10 n v) ≡ passed v
 decimal-back n v lt = shown-back 10 (omega arith) (omega arith) 3 n v lt
