@@ -115,13 +115,13 @@ def main():
     for column in ('assumptions', 'megabytes'):
         total[column] = max(row[column] for row in each)
     rows['**all**'] = total
-    wrong = kept('Wrong definitions')
+    tried = [kept('Wrong definitions'), kept('Readers who')]
     with open(PAPER, 'w') as out:
         out.write(HEAD + '| Crate | ' + ' | '.join(COLUMNS) + ' |\n|---' + '|---:' * len(COLUMNS) + '|\n')
         for crate, row in rows.items():
             out.write(f'| {crate} | ' + ' | '.join(f'{row[column]:.0f}' for column in COLUMNS) + ' |\n')
         out.write(f'\nIn the last row assumptions and megabytes are the most of any crate.\n\n{gate}\n\n')
-        out.write(''.join(f'{paragraph}\n\n' for paragraph in [wrong] if paragraph))
+        out.write(''.join(f'{paragraph}\n\n' for paragraph in tried if paragraph))
         out.write(outside())
 
 
