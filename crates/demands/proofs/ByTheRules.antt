@@ -10,12 +10,13 @@ use mathlib.Core.List.{List, [], _∷_, _++_}
 use mathlib.Core.Option.{some}
 use lib.Dec.{eqb}
 use Rattle.formats.specs.Checks.{if_then_else_}
-use Rattle.formats.proofs.Checks.{not-some, neither, both-false}
+use Rattle.formats.proofs.Checks.{not-so, not-some, neither, both-false}
 use Rattle.lines.specs.declared.Line.the-variants.{Bad}
 use Rattle.lines.specs.Program.{lineAt}
 use Rattle.running.specs.declared.Run.{Run}
 use Rattle.running.specs.declared.Ran.{Ran}
 use Rattle.running.specs.Running.{start, tick, ticks}
+use Rattle.running.proofs.Parts.{off-is}
 use Rattle.controller.specs.declared.Controller.{Controller}
 use Rattle.controller.specs.Controller.{Areas}
 use Rattle.controller.specs.Refusals.{Call, powerOn, byte, tick as tickCall, press, emptying}
@@ -36,7 +37,7 @@ use Rattle.demands.proofs.Steps.{Step, passes, fails, stepped, program-
 use Rattle.demands.proofs.Agrees.{Agrees}
 use Rattle.demands.proofs.Heard.{hears}
 use Rattle.demands.proofs.Telling.{tell-taken, after-more, told-more, held-as-told}
-use Rattle.demands.proofs.AsTold.{outputs-as-told}
+use Rattle.demands.proofs.AsTold.{outputs-as-told, only-running-paused}
 use Rattle.demands.proofs.Replies.{reads-as-told}
 use Rattle.demands.proofs.LinesRun.{lines-as-told}
 use Rattle.demands.proofs.Undisturbed.{given-as-told, undisturbed}
@@ -105,6 +106,17 @@ module _ (ms : List Made) (a : Areas) (taken : isTaken (seen ms (ticking a)) ≡
   tick-lines : seen ms (ticking a) .lines ≡ tick (a .program) (told ms .run) .lines
   unfolding said note
   tick-lines = lines-as-told ms (ticking a) taken ∙ rw unpaused
+
+-- A tick that is taken while no program runs moves nothing of it: run and event stay, and no line is run.
+pub idle-tick : (ms : List Made) (a : Areas) → isTaken (seen ms (ticking a)) ≡ true → told ms .run .on ≡ false
+    → let gone = told (ms ++ (ticking a ∷ [])) in (gone .run ≡ told ms .run) × (gone .event ≡ told ms .event) × (seen ms (ticking a) .lines ≡ 0)
+idle-tick ms a taken off =
+    let still : told ms .paused ≡ false = not-so (told ms .paused) (λ p. true≢false (sym (only-running-paused ms p) ∙ off)) in
+    let r = off-is (told ms .run) (a .program) off in (
+      tick-run ms a taken still ∙ ap (λ (x : Ran). x .run) r,
+      tick-event ms a taken still ∙ ap (λ (x : Ran). if eqb (x .event) 0 then told ms .event else x .event) r,
+      tick-lines ms a taken still ∙ ap (λ (x : Ran). x .lines) r,
+    )
 
 -- ---- one start, by the history
 

@@ -5,18 +5,23 @@ use mathlib.Core.Logic.{_⊎_, inl, inr}
 use Prim.Native.Nat.{ℕ, _≤_}
 use Prim.Native.Char.{code}
 use native.Mathlib.Omega.{arith}
-use mathlib.Core.Bool.{true, false, not, _&&_, _||_, true≢false}
+use mathlib.Core.Bool.{Bool, true, false, not, _&&_, _||_, true≢false}
+use mathlib.Core.List.{List, [], _∷_, _++_}
 use lib.ListN.{getD}
 use lib.Dec.{eqb, leb}
 use borrow.Author.Tests.{eqb-true, leb-true, not-true}
 use Rattle.formats.proofs.Checks.{both-true, either-true}
+use Rattle.formats.specs.Bytes.{areBytes}
 use Rattle.lines.specs.declared.Line.{Line}
 use Rattle.controller.specs.Refusals.{Call, powerOn, byte, tick, press, emptying}
-use Rattle.controller.specs.Effects.{isPowerOn, isPress, isEnd}
+use Rattle.controller.specs.Effects.{isPowerOn, isPress, isEnd, isEmptying}
 use Rattle.demands.specs.Capitals.{inCapitals}
 use Rattle.demands.specs.Seen.{isTaken, reply, isError, Note}
 use Rattle.demands.specs.Said.{Said, silence, reads, writesLine, writesOutputs, writesParameter, gives, given, isOutputs, readsEvent}
-use Rattle.demands.specs.Told.{Told, said}
+use Rattle.demands.specs.Told.{Told, said, tell, tellAll, Never}
+use Rattle.demands.specs.Changes.{begins}
+use Rattle.demands.specs.Histories.{Made}
+use Rattle.demands.specs.LentBytes.{lendsBytes}
 use Rattle.demands.specs.ReadBack.{replacedBy, isReplaced}
 use Rattle.demands.specs.FirstSteps.{isAnswered, hasRead, hasWritten}
 use Rattle.demands.specs.Undisturbed.{isBroken, isPausing, isTouched}
@@ -36,6 +41,13 @@ is-13 (byte x) e = ap byte (eqb-true x 13 e)
 is-13 tick e = absurd (true≢false (sym e))
 is-13 (press n) e = absurd (true≢false (sym e))
 is-13 emptying e = absurd (true≢false (sym e))
+
+empties : (k : Call) → isEmptying k ≡ true → k ≡ emptying
+empties powerOn e = absurd (true≢false (sym e))
+empties (byte x) e = absurd (true≢false (sym e))
+empties tick e = absurd (true≢false (sym e))
+empties (press n) e = absurd (true≢false (sym e))
+empties emptying e = refl
 
 -- a code that is none of no command's
 gave : (s : Said) (n : ℕ) → 1 ≤ n → given s ≡ n → s ≡ gives n
@@ -128,6 +140,12 @@ module _ (t : Told) (n : Note) where
             (λ b. inr (inr (inl (wrote-outputs s b))))) (λ a. inr (inr (inr (read-212 s a)))),
       )
 
+  -- what `noneBegins` excludes
+  pub begins-only : begins n ≡ true → (isPowerOn (n .call) ≡ true) ⊎ ((n .call ≡ emptying) × (isTaken (n .seen) ≡ true))
+  begins-only e =
+      either-true (isPowerOn (n .call)) (isEmptying (n .call) && isTaken (n .seen)) e inl λ f.
+      let two = both-true (isEmptying (n .call)) (isTaken (n .seen)) f in inr (empties (n .call) (two .0), two .1)
+
   answered : isAnswered n ≡ true → (isTaken (n .seen) ≡ true) × (n .call ≡ byte 13) × (isError (reply (n .seen)) ≡ false)
   answered e =
       let two = both-true (isTaken (n .seen) && isEnd (n .call)) (not (isError (reply (n .seen)))) e in
@@ -146,3 +164,17 @@ module _ (t : Told) (n : Note) where
   written-only e =
       let two = both-true (isAnswered n) (not (eqb (getD (inCapitals (t .received)) 1 0) (code "R"))) e in
       let a = answered (two .0) in (a .0, a .1, a .2, not-true _ (two .1))
+
+-- ---- premises over many calls
+
+-- `Never` holds if none of the calls is such a one
+pub never-so : (is : Told → Note → Bool) (ns : List Note) (t : Told)
+    → ((xs ys : List Note) (n : Note) → ns ≡ xs ++ (n ∷ ys) → is (tellAll t xs) n ≡ false) → Never is t ns
+unfolding tellAll
+never-so is [] t none = tt
+never-so is (n ∷ ns) t none = (none [] ns n refl, never-so is ns (tell t n) λ xs ys m e. none (n ∷ xs) ys m (ap (λ more. n ∷ more) e))
+
+-- what is lent is of bytes if each of the four areas is
+pub lends-so : (m : Made) → areBytes (m .areas .program) ≡ true → areBytes (m .areas .saved) ≡ true → areBytes (m .areas .log) ≡ true
+    → areBytes (m .areas .out) ≡ true → lendsBytes m ≡ true
+lends-so m p s l o = rw (p, s, l, o)

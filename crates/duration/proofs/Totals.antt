@@ -14,6 +14,13 @@ use Rattle.duration.specs.Report.{report, answerOf}
 use Rattle.duration.specs.Total.{mostTotal, adds, grandTotal, toldTotal, cappedTotal, kept}
 use Rattle.duration.proofs.Capping.{capped-le, capped-small, capped-large, capped-left}
 
+-- "a refused program adds nothing"
+pub adds-none : (e : ℕ) → adds (Refused e) ≡ 0
+adds-none e = refl
+
+pub adds-own : (n : ℕ) → adds (Takes n) ≡ n
+adds-own n = refl
+
 kept-so : (t : ℕ) (ps : List (List ℕ)) → t ≤ mostTotal + 1 → kept t ps ≡ cappedTotal (t + grandTotal ps)
 unfolding kept grandTotal
 kept-so t [] le = let z : t + 0 ≡ t = omega arith in sym (ap cappedTotal z ∙ capped-small mostTotal t le)

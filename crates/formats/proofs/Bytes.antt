@@ -1,7 +1,7 @@
 -- A number in bytes and back, and the numbers that bytes of a list are.
 -- Assumes nothing.
-use mathlib.Core.Path.{_≡_, ap₂}
-use Prim.Native.Nat.{ℕ, suc, _+_, _/_, _%_, _^_, _≤_, _<_}
+use mathlib.Core.Path.{_≡_, refl, ap₂}
+use Prim.Native.Nat.{ℕ, suc, _+_, _*_, _/_, _%_, _^_, _≤_, _<_}
 use mathlib.Core.Bool.{true}
 use mathlib.Core.List.{List, [], _∷_}
 use lib.ListN.{length, drop, getD, length-take}
@@ -9,7 +9,7 @@ use lib.Seq.{drop-cons}
 use native.Mathlib.Omega.{arith}
 use native.Mathlib.Nat.{lt-of-lt-of-le, pow-le-pow-right}
 use Rattle.formats.specs.Checks.{all}
-use Rattle.formats.specs.Digits.{digits, number}
+use Rattle.formats.specs.Digits.{digits, numberAfter, number}
 use Rattle.formats.specs.Bytes.{part, field, bytes}
 use Rattle.formats.proofs.Checks.{all-take, all-drop}
 use Rattle.formats.proofs.Parts.{length-part}
@@ -19,7 +19,19 @@ use Rattle.formats.proofs.Digits.{isBelow, number-below, number-digits,
 pub number-bytes : (n v : ℕ) → v < 256 ^ n → number 256 (bytes n v) ≡ v
 number-bytes n v lt = number-digits 256 (omega arith) n v lt
 
--- the four bytes of a number, "high byte first"
+-- the two and the four bytes of a number, "high byte first", and the number that they are
+pub two-are : (v : ℕ) → bytes 2 v ≡ v / 256 % 256 ∷ v % 256 ∷ []
+unfolding digits
+two-are v = refl
+
+pub number-two : (a b : ℕ) → number 256 (a ∷ b ∷ []) ≡ a * 256 + b
+unfolding numberAfter
+number-two a b = omega arith
+
+pub number-four : (a b c d : ℕ) → number 256 (a ∷ b ∷ c ∷ d ∷ []) ≡ a * 16777216 + b * 65536 + c * 256 + d
+unfolding numberAfter
+number-four a b c d = omega arith
+
 pub four-are : (v : ℕ) → bytes 4 v ≡ v / 16777216 % 256 ∷ v / 65536 % 256 ∷ v / 256 % 256 ∷ v % 256 ∷ []
 unfolding digits
 four-are v =

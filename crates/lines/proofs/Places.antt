@@ -4,10 +4,10 @@ use mathlib.Core.Path.{_≡_, refl, sym, ap, _∙_}
 use mathlib.Core.Logic.{_≢_}
 use Prim.Native.Nat.{ℕ, _+_, _*_, _≤_}
 use mathlib.Core.Bool.{true}
-use mathlib.Core.List.{List, [], _∷_, append-nil}
+use mathlib.Core.List.{List, [], _∷_, _++_, append-nil}
 use lib.ListN.{length, take, drop}
 use Rattle.formats.specs.Checks.{all}
-use Rattle.formats.specs.Bytes.{part}
+use Rattle.formats.specs.Bytes.{part, placed}
 use Rattle.formats.proofs.Checks.{all-drop}
 use Rattle.formats.proofs.Digits.{isBelow}
 use Rattle.formats.proofs.Places.{same-place, other-place}
@@ -30,6 +30,15 @@ eight (a ∷ b ∷ c ∷ d ∷ e ∷ []) = refl
 eight (a ∷ b ∷ c ∷ d ∷ e ∷ f ∷ []) = refl
 eight (a ∷ b ∷ c ∷ d ∷ e ∷ f ∷ g ∷ []) = refl
 eight (a ∷ b ∷ c ∷ d ∷ e ∷ f ∷ g ∷ i ∷ bs) = refl
+
+-- Line k is what the eight bytes at 8 * k say, and is written into these alone.
+pub line-is : (p : List ℕ) (k : ℕ) → lineAt p k ≡ readLine (part (8 * k) 8 p)
+unfolding lineAt
+line-is p k = sym (eight (drop (8 * k) p))
+
+pub put-is : (k : ℕ) (l : Line) (p : List ℕ) → putLine k l p ≡ take (8 * k) p ++ (bytesOf l ++ drop (8 * k + 8) p)
+unfolding placed
+put-is k l p = refl
 
 -- Every line of a program lies in the ranges.
 pub line-ranged : (p : List ℕ) (k : ℕ) → Ranged (lineAt p k)

@@ -1,7 +1,7 @@
 -- Laws of a record: its layout and its length.
 -- Assumes nothing.
 use mathlib.Core.Path.{_≡_, refl}
-use Prim.Native.Nat.{ℕ, _*_, _/_, _%_}
+use Prim.Native.Nat.{ℕ, _*_, _/_, _%_, min}
 use native.Mathlib.Omega.{arith}
 use mathlib.Core.List.{List, [], _∷_}
 use lib.ListN.{length, length-append}
@@ -9,7 +9,7 @@ use Rattle.formats.specs.Digits.{digits}
 use Rattle.formats.proofs.Bytes.{four-are}
 use Rattle.log.specs.declared.Change.{Change}
 use Rattle.log.specs.Record.{recordSize, recordOf, changeRecord, gapRecord}
-use Rattle.log.specs.Log.{places, recordsOf}
+use Rattle.log.specs.Log.{places, lostNumber, recordsOf}
 
 -- the layout, byte by byte: "two-byte mark [...], kind, cause, tick count (4 bytes), value (4 bytes), high byte first", and the last word
 pub record-is : (kind cause tick value word : ℕ) → recordOf kind cause tick value word
@@ -23,6 +23,10 @@ record-is kind cause tick value word = rw (four-are tick, four-are value, four-a
 -- "The area holds R whole [...] records", of 16 bytes
 pub places-are : (length : ℕ) → places length ≡ length / 16
 places-are length = refl
+
+-- "The value 4,294,967,295 means that many or more."
+pub lost-is : (lost : List Change) → lostNumber lost ≡ min (length lost) 4294967295
+lost-is lost = refl
 
 -- and of one record
 layout : recordOf 1 254 0x01020304 0xA0B0C0D0 0x11223344

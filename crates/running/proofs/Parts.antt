@@ -7,7 +7,8 @@ use mathlib.Core.List.{List, [], _∷_}
 use lib.ListN.{set}
 use Rattle.running.specs.declared.Counter.{Counter}
 use Rattle.running.specs.declared.Run.{Run}
-use Rattle.running.specs.Running.{atLine, withOutputs, waiting, withCounter, freshRun, stopped, stops, rests, runDue, start}
+use Rattle.running.specs.declared.How.the-variants.{Holds, Ends, GoesOn}
+use Rattle.running.specs.Running.{atLine, withOutputs, waiting, withCounter, freshRun, stopped, holds, ends, goesTo, stops, rests, runDue, start, tick}
 
 -- a counter that is free; "loop counters, 0 when free"
 abbrev none : Counter
@@ -37,6 +38,22 @@ module _ (r : Run) where
       ≡ record { run = record { on = false; line = r .line; outputs = r .outputs; wait = 0; counters = four }; event = event; lines = n }
   unfolding stopped
   event-stop-is event n = refl
+
+  -- a tick of a stopped program: nothing runs, and no event comes
+  pub off-is : (p : List ℕ) → r .on ≡ false → tick p r ≡ record { run = r; event = 0; lines = 0 }
+  unfolding tick
+  off-is p off = rw off
+
+  -- to a line, which is not run yet; held at one; at an end
+  pub goes-is : (k : ℕ) → goesTo k r
+      ≡ record { run = record { on = r .on; line = k; outputs = r .outputs; wait = r .wait; counters = r .counters }; how = GoesOn }
+  goes-is k = refl
+
+  pub holds-is : holds r ≡ record { run = r; how = Holds }
+  holds-is = refl
+
+  pub ends-is : (event : ℕ) → ends event r ≡ record { run = r; how = Ends event }
+  ends-is event = refl
 
   pub rest-is : (n : ℕ) → rests n r ≡ record { run = r; event = 0; lines = n }
   rest-is n = refl
