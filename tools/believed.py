@@ -43,7 +43,7 @@ STOPS = {
 }
 WORDS = 'Nobody has to believe this'
 # the modules of theorems by what they speak of; what is in none of these speaks of the box
-OF_LOGS = ('demands/Possible', 'demands/LogReads', 'demands/MadeByCalls', 'demands/Exactly', 'demands/LogWords', 'reader/ReadBack', 'reader/Reasons')
+OF_LOGS = ('demands/Possible', 'demands/LogReads', 'demands/Exactly', 'demands/LogWords', 'reader/ReadBack', 'reader/Reasons')
 OF_DURATIONS = ('duration/Taking', 'duration/Refusing')
 OF_THE_CODE = ('calls/Outcome', 'calls/Kept', 'nizhalepu/Agreement')
 COMPUTED = ('demands/Worked', 'demands/Applied')
@@ -346,9 +346,11 @@ def groups(reader):
     return [('The box', 'The theorems of `demands` over calls and what is seen of them.', of(box)),
             ('A log read back', 'The theorems of `reader`, and of `demands` on what a log tells; what they add.', of(OF_LOGS)),
             ('How long a program takes', 'The theorems of `duration`; what they add.', of(OF_DURATIONS)),
-            ('The code', 'The theorems of `calls` and `nizhalepu`, and the contracts of what is called from outside, the library and the program `durations`; what they add.',
+            ('The code', 'The theorems of `calls` and `nizhalepu`, and the contracts of what is called from outside, the library and the program '
+             '`durations`; what they add.',
              itertools.chain(of(OF_THE_CODE), contracts(reader))),
-            ('Computed points', 'What `demands/Worked` and `demands/Applied` add: the languages that the points, tables and histories are written in. These themselves are what is stated.',
+            ('Computed points', 'What `demands/Worked` and `demands/Applied` add: the languages that the points, tables and histories are written in. These '
+             'themselves are what is stated.',
              of(COMPUTED))] + reader.more
 
 
@@ -424,7 +426,8 @@ def page(reader):
     out += ['', 'It stops at these, which are reached and need not be believed:', '', '| Definition | Why |', '|---|---|']
     out += [f'| {shown(path)[:-1]}.{name}` | {reason} |' for (path, name), reason in STOPS.items() if Name(path, name) in known]
     behind = {what for _, _, _, names in measured(Reader(stops=())) for what in names} - known | {what for what in known if what in STOPS}
-    out += ['', f'What stands behind these has {sum(map(reader.lines, behind))} lines more: the code is proved against it, and a reader need not hold it against the paper.', '']
+    more = sum(map(reader.lines, behind))
+    out += ['', f'What stands behind these has {more} lines more: the code is proved against it, and a reader need not hold it against the paper.', '']
     return '\n'.join(out + parts).rstrip() + '\n', outside
 
 
