@@ -271,9 +271,9 @@ def at_points(known, crate, short, lines, one, clause):
 # ---- premises
 
 # the definitions that say of which calls a theorem of `demands` speaks
-PREMISES = ('Arrives', 'replacedBy', 'isReplaced', 'Unreplaced', 'isBroken', 'Unbroken', 'counts', 'unpaused', 'isPausing', 'isTouched', 'Untouched', 'isAnswered',
-            'isRead', 'hasRead', 'hasWritten', 'Unread', 'Unwritten', 'isLentProgram', 'isAccepted', 'HandsOn', 'AllHandOn', 'areOfBytes', 'lendsBytes', 'lendBytes', 'begins',
-            'noneBegins', 'Never', 'AllTaken', 'isTaken', 'isError')
+PREMISES = ('Arrives', 'replacedBy', 'isReplaced', 'Unreplaced', 'isBroken', 'Unbroken', 'counts', 'unpaused', 'isPausing', 'isTouched',
+            'Untouched', 'isAnswered', 'isRead', 'hasRead', 'hasWritten', 'Unread', 'Unwritten', 'isLentProgram', 'isAccepted', 'HandsOn',
+            'AllHandOn', 'areOfBytes', 'lendsBytes', 'lendBytes', 'begins', 'noneBegins', 'Never', 'AllTaken', 'isTaken', 'isError')
 
 # something else that can be asked of a variable of such a type
 ASKED = {'Note': ['isTaken ({} .seen)', 'isPowerOn ({} .call)', 'isTick ({} .call)', 'isEmptying ({} .call)', 'isPress 2 ({} .call)'],
