@@ -7,7 +7,7 @@ use mathlib.Core.Bool.{Bool, true, false}
 use mathlib.Core.List.{List, [], _∷_}
 use lib.Dec.{leb}
 use borrow.Author.Tests.{leb-true, leb-false, le-leb, lt-leb}
-use Rattle.formats.specs.Checks.{refused, _>>_, _orElse_}
+use Rattle.formats.specs.Checks.{refused, passed, _>>_, _orElse_}
 use Rattle.duration.specs.declared.Answer.{Answer}
 use Rattle.duration.specs.declared.Answer.the-variants.{Takes, Refused}
 use Rattle.duration.specs.Report.{report, answerOf}
@@ -20,6 +20,20 @@ adds-none e = refl
 
 pub adds-own : (n : ℕ) → adds (Takes n) ≡ n
 adds-own n = refl
+
+-- the grand total: of none 0, and with one program more
+pub total-none : grandTotal [] ≡ 0
+unfolding grandTotal
+total-none = refl
+
+module _ (p : List ℕ) (ps : List (List ℕ)) where
+  pub total-takes : (n : ℕ) → report p ≡ passed n → grandTotal (p ∷ ps) ≡ n + grandTotal ps
+  unfolding grandTotal
+  total-takes n is = rw is
+
+  pub total-refused : (e : ℕ) → report p ≡ refused e → grandTotal (p ∷ ps) ≡ grandTotal ps
+  unfolding grandTotal
+  total-refused e is = rw is (let z : 0 + grandTotal ps ≡ grandTotal ps = omega arith in z)
 
 kept-so : (t : ℕ) (ps : List (List ℕ)) → t ≤ mostTotal + 1 → kept t ps ≡ cappedTotal (t + grandTotal ps)
 unfolding kept grandTotal

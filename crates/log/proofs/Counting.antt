@@ -14,7 +14,7 @@ use Rattle.formats.specs.Checks.{if_then_else_}
 use Rattle.formats.proofs.Checks.{if-case}
 use Rattle.log.specs.declared.Change.{Change}
 use Rattle.log.specs.declared.Log.{Log}
-use Rattle.log.specs.Record.{recordSize, leastArea, gapRecord}
+use Rattle.log.specs.Record.{recordSize, leastArea, recordOf, changeRecord, gapRecord}
 use Rattle.log.specs.Log.{R, mostLost, recordDue, Logged, recorded, oneMoreLost, firstLost, addChange}
 use Rattle.log.specs.Log.{held, emptied, firstTick, lastWord, lostNumber, gapOver}
 
@@ -128,3 +128,24 @@ pub held-counts : (cs : List Change) (l : Log) → leastArea ≤ l .length → C
 held-counts cs l enough h =
     if-case (λ n. n ≡ min (length cs) (R l)) (eqb (l .lost) 0) (λ e. omega (arith, h .keptIs, h .lostIs, eqb-true (l .lost) 0 e))
     (λ e. let ne : l .lost ≢ 0 = eqb-false (l .lost) 0 e in omega (arith, h .keptIs, h .lostIs))
+
+-- ---- the record that is due, field by field
+
+-- "Kind 1: value is the new word; cause is the line [...]", and behind it the word before
+pub due-change-is : (R : ℕ) (cs : List Change) (c : Change) → length cs + 1 < R
+    → recordDue R cs c ≡ recordOf 1 (c .cause) (c .tick) (c .word) (c .before)
+unfolding changeRecord
+due-change-is R cs c lt = rw (lt-ltb (length cs + 1) R lt)
+
+-- "kind 2: cause 0", the tick of the first lost, "value the number lost", the word after the last
+pub due-gap-is : (R : ℕ) (cs : List Change) (c : Change) → R ≤ length cs + 1 → let lost = drop (R - 1) cs ++ (c ∷ []) in
+    recordDue R cs c ≡ recordOf 2 0 (firstTick lost) (min (length lost) 4294967295) (c .word)
+unfolding gapRecord
+due-gap-is R cs c le =
+    let lost = drop (R - 1) cs ++ (c ∷ []) in
+    rw (le-ltb (length cs + 1) R le)
+    (gap-tells lost (omega (arith, length-append (drop (R - 1) cs) (c ∷ [])))
+    ∙ ap (λ w. recordOf 2 0 (firstTick lost) (lostNumber lost) w) (word-snoc 0 (drop (R - 1) cs) c))
+
+pub first-is : (c : Change) (cs : List Change) → firstTick (c ∷ cs) ≡ c .tick
+first-is c cs = refl

@@ -1,9 +1,9 @@
 -- Laws of the steps, line by line: how long a State line is held, and to what each For, each Next and a Bad line leads, case by case.
 -- Assumes nothing.
-use mathlib.Core.Path.{_≡_, ap, _∙_}
+use mathlib.Core.Path.{_≡_, refl, ap, _∙_}
 use Prim.Native.Nat.{ℕ, zero, suc, _+_, _-_, _≤_, _<_}
 use native.Mathlib.Omega.{arith}
-use mathlib.Core.Bool.{true}
+use mathlib.Core.Bool.{true, false}
 use mathlib.Core.List.{List}
 use borrow.Author.Tests.{eq-eqb, ne-eqb, lt-ltb, le-ltb}
 use Rattle.lines.specs.declared.Line.the-variants.{State, For, Next, Bad}
@@ -11,6 +11,7 @@ use Rattle.lines.specs.Program.{lineAt, nextAfter, FirstFrom, NoneFrom}
 use Rattle.lines.proofs.Search.{first-next, none-next}
 use Rattle.running.specs.declared.Run.{Run}
 use Rattle.running.specs.declared.Ran.{Ran}
+use Rattle.running.specs.declared.How.the-variants.{Ends, GoesOn}
 use Rattle.running.specs.Running.{free, counter, atLine, withOutputs, waiting, withCounter, stopped, ends, goesTo, onward, runLine}
 use Rattle.running.specs.Running.{isForOrNext, stops, rests, follow, step, runDue, most, tick, ticks}
 use Rattle.running.proofs.Waiting.{held-until, due-at}
@@ -78,11 +79,31 @@ bad-due p r on due before bad = due-at p r on due ∙ rw (lt-ltb (r .line) 199 b
 
 -- ---- what is counted
 
+-- For and Next lines, and no other
+pub for-counts : (c n : ℕ) → isForOrNext (For c n) ≡ true
+for-counts c n = refl
+
+pub next-counts : (c : ℕ) → isForOrNext (Next c) ≡ true
+next-counts c = refl
+
+pub state-counts : (o t : ℕ) → isForOrNext (State o t) ≡ false
+state-counts o t = refl
+
+pub bad-counts : isForOrNext Bad ≡ false
+bad-counts = refl
+
 module _ (p : List ℕ) (r : Run) (loop : isForOrNext (lineAt p (r .line)) ≡ true) where
   -- a For or a Next counts as run, however it ends
   pub loop-counts : (left m : ℕ) → runDue p (suc left) m r ≡ follow (step p r .how) (m + 1) (step p r .run) (λ s. runDue p left (m + 1) s)
   unfolding runDue
   loop-counts left m = rw loop
+
+  -- it ends the program with its event, or the next line falls due
+  pub loop-ends : (left m e : ℕ) → step p r .how ≡ Ends e → runDue p (suc left) m r ≡ stops e (m + 1) (step p r .run)
+  loop-ends left m e w = loop-counts left m ∙ simp w
+
+  pub loop-goes-on : (left m : ℕ) → step p r .how ≡ GoesOn → runDue p (suc left) m r ≡ runDue p left (m + 1) (step p r .run)
+  loop-goes-on left m w = loop-counts left m ∙ simp w
 
   -- "Were a 401st due, the program stops there with event 013"
   pub loop-over : (m : ℕ) → runDue p 0 m r ≡ stops 13 m r
