@@ -1,5 +1,5 @@
 -- Promises that apply: for each theorem with a premise about calls the kind of script on which it is tried, and the tests that such a script has to pass.
--- `proofs/Applied` puts the theorem to use on every script that passes them.
+-- `proofs/PutToUse` puts the theorem to use on every script that passes them.
 use Prim.Native.Nat.{ℕ, _+_, _*_}
 use Prim.Native.String.{String}
 use mathlib.Core.Bool.{Bool, true, false, not, _&&_}
