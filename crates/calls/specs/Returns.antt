@@ -2,7 +2,7 @@
 use Prim.Native.Nat.{ℕ}
 use mathlib.Core.Bool.{Bool}
 use mathlib.Core.List.{List}
-use Rattle.formats.specs.Checks.{Res, refused, passed, _>>_, _orElse_}
+use Rattle.formats.specs.Checks.{Res, _>>_, _orElse_}
 use Rattle.controller.specs.declared.Controller.{Controller}
 use Rattle.controller.specs.Controller.{Areas}
 use Rattle.controller.specs.Deeds.{Deed}
@@ -14,11 +14,6 @@ use Rattle.calls.specs.declared.Returned.{Returned}
 -- what is returned, with the areas after the call
 abbrev pub after : Returned → Areas → After
 after r a = record { state = r .next .controller; refusal = r .refusal; lines = r .lines; written = r .written; areas = a }
-
--- the number that a check refuses with; 0 where it passes
-abbrev pub refusalOf : Res (Unit {0}) → ℕ
-refusalOf (refused n) = n
-refusalOf (passed ok) = 0
 
 -- 030 and 031, and then the one test that is the call's own, with its number
 abbrev pub tested : List (List ℕ) → Bool → Bool → ℕ → Res (Unit {0})

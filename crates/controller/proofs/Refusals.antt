@@ -15,7 +15,8 @@ use Rattle.log.specs.Record.{leastArea, isArea}
 use Rattle.log.proofs.Held.{area-least}
 use Rattle.controller.specs.declared.Controller.{Controller}
 use Rattle.controller.specs.Controller.{Areas}
-use Rattle.controller.specs.Refusals.{Call, powerOn, byte, tick, press, emptying, isProgram, isLog, isSameLog}
+use Rattle.lines.specs.Program.{isProgram}
+use Rattle.controller.specs.Refusals.{Call, powerOn, byte, tick, press, emptying, isLog, isSameLog}
 use Rattle.controller.specs.Refusals.{isReply, mayTick, isButton, isDestination, lent, check}
 use Rattle.controller.specs.Effects.{isPowerOn}
 use Rattle.controller.specs.Calls.{After, refusedWith, taken, settled, call}

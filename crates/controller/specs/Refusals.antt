@@ -6,6 +6,7 @@ use mathlib.Core.List.{List, [], _∷_}
 use lib.ListN.{length}
 use lib.Dec.{leb, eqb}
 use Rattle.formats.specs.Checks.{Res, _>>_, _orElse_, all}
+use Rattle.lines.specs.Program.{isProgram}
 use Rattle.log.specs.Record.{isArea}
 use Rattle.log.specs.Log.{heldBytes}
 use Rattle.controller.specs.declared.Controller.{Controller}
@@ -18,10 +19,6 @@ pub data Call : Type 0 where
   tick : Call
   press : ℕ → Call
   emptying : Call
-
--- 030 "program area or saved copy is not exactly 1,600 bytes"
-abbrev pub isProgram : List ℕ → Bool
-isProgram area = eqb (length area) 1600
 
 -- 031 "log area under 24 or over 65,536 bytes, or not the length given at power-on"; 02, item 8: "The smallest log area is 32 bytes"
 abbrev pub isLog : List ℕ → Bool
@@ -49,6 +46,7 @@ isDestination c area = leb (heldBytes (c .log)) (length area)
 -- What every call checks first: the program area and the saved copy, as far as it is lent them, and whether the log fits.
 unfoldable pub lent : List (List ℕ) → Bool → Res (Unit {0})
 lent programs log = do
+  -- 030 "program area or saved copy is not exactly 1,600 bytes"
   all isProgram programs orElse 30
   log orElse 31
 

@@ -22,7 +22,8 @@ use Rattle.controller.specs.Refusals as Refusals
 use Rattle.controller.specs.Effects as Effects
 use Rattle.controller.specs.Calls as Calls
 use Rattle.duration.specs.Report as Report
-use Rattle.duration.specs.Lines as DLines
+use Rattle.lines.specs.Searches as Searches
+use Rattle.lines.specs.Loops as LineLoops
 use Rattle.duration.specs.Loops as Loops
 use Rattle.duration.specs.Ticks as Ticks
 use Rattle.reader.specs.Reading as Reading
@@ -49,7 +50,7 @@ unfolding failing scripts Applying.failingOf Premises.counted Applying.readsBack
     Checks._>>=_ Checks._>>_ Checks._orElse_ Checks.text Digits.digits Digits.numberAfter Digits.shown Digits.numberIn Digits.hIn Digits.dIn
     Digits.errorText Bytes.placed Line.readLine Line.bytesOf Program.lineAt Program.firstNext Program.nextAfter Text.lineText Text.counterIn Text.stateIn
     Text.forIn Text.nextIn Text.lineIn Running.stopped Running.onward Running.runLine Running.step Running.runDue Running.start Running.tick Running.ticks
-    Report.report Report.reportTo DLines.firstOf DLines.someBefore Loops.endLine Loops.nextOf Loops.counterAt Loops.isInside Loops.crosses Loops.startsInOwn
+    Report.report Report.reportTo Searches.firstOf Searches.someBefore LineLoops.endLine LineLoops.nextOf LineLoops.counterAt Loops.isInside Loops.crosses Loops.startsInOwn
     Loops.lacksNext Loops.lacksFor Loops.isTangled Loops.endsInside Ticks.past Ticks.summed Ticks.runTicks Ticks.idlesAt Ticks.idles Ticks.hasBad
     Reading.ownWords Reading.isChangeRecord Reading.isGap Reading.joins Reading.canHold Reading.mayFollow Reading.isPossible Reading.mayStand
     Reading.readAfter Reading.readingAs Reading.changesIn Layout.layoutOf Layout.recordIn Possible.inOneByte Possible.leadsTo Words.isOutsideGap

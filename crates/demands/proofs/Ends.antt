@@ -22,9 +22,10 @@ use Rattle.running.proofs.Ending.{start-told, tick-told, start-ends, tick-ends-
 use Rattle.running.proofs.Ending as Ending
 use Rattle.running.proofs.Steps.{bad-line, bad-due}
 use Rattle.duration.specs.Report.{report}
-use Rattle.duration.specs.ByTheRule as ByTheRule
-use Rattle.duration.specs.ByTheRule.{EndsAfter}
-use Rattle.duration.proofs.Taking.{takes, after-ticks, after-one-more}
+use Rattle.running.specs.Ticking as Ticking
+use Rattle.running.specs.Ticking.{EndsAfter}
+use Rattle.running.proofs.Reaching.{after-ticks, after-one-more}
+use Rattle.duration.proofs.Taking.{takes}
 use Rattle.controller.specs.Controller.{Areas}
 use Rattle.controller.specs.Refusals.{Call}
 use Rattle.controller.specs.Effects.{isTick, isPress, isPowerOn}
@@ -209,7 +210,7 @@ module _ (c : Course) (so : Started c) where
   -- 02, item 6: how long it takes. For a program that the report gives n ticks, started at line 000: as long as fewer than n ticks were taken
   -- unpaused it runs, whatever the traffic and the pauses,
   module _ (first : c .line ≡ 0) (n : ℕ) (is : report (programOf c) ≡ passed n) where
-    lasts : EndsAfter (programOf c) n (startOf c)
+    lasts : EndsAfter (programOf c) n 11 (startOf c)
     lasts = rw first (takes (programOf c) n is (outputs (c .before)))
 
     on-until : count c < n → ruled c .on ≡ true
@@ -224,17 +225,17 @@ module _ (c : Course) (so : Started c) where
         let x = startOf c in
         let by = ends-by-the-rules c so (on-until (omega arith)) a t in
         let next-is : tick (programOf c) (ruled c)
-        ≡ ByTheRule.after (programOf c) n x =
+        ≡ Ticking.after (programOf c) n x =
         ap (tick (programOf c)) (sym (after-ticks (programOf c) (count c) x)) ∙ sym (after-one-more (programOf c) (count c) x)
-        ∙ ap (λ j. ByTheRule.after (programOf c) j x) last in (
+        ∙ ap (λ j. Ticking.after (programOf c) j x) last in (
           by .1 ∙ ap (λ (r : Ran). if eqb (r .event) 0 then told (now c) .event else r .event) next-is ∙ rw (lasts .event),
           ap (λ (r : Run). r .on) (by .0) ∙ ap (λ (r : Ran). r .run .on) next-is ∙ lasts .off,
         )
 
     -- and where there are none to take, at the start.
     pub ends-at-once : n ≡ 0 → (told (begun c) .event ≡ 11) × (told (begun c) .run .on ≡ false)
-    unfolding ByTheRule.after
+    unfolding Ticking.after
     ends-at-once no-ticks =
         let x = startOf c in
-        let end : EndsAfter (programOf c) 0 x = rw no-ticks at lasts in
+        let end : EndsAfter (programOf c) 0 11 x = rw no-ticks at lasts in
         (starts-by-the-rules c so .1 ∙ rw (end .event), ap (λ (r : Run). r .on) (starts-by-the-rules c so .0) ∙ end .off)

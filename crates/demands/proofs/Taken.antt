@@ -7,11 +7,12 @@ use Prim.Native.Nat.{ℕ}
 use mathlib.Core.Bool.{Bool, true, false, not, true≢false}
 use mathlib.Core.List.{List, [], _∷_, _++_}
 use borrow.Author.Tests.{eq-eqb}
-use Rattle.formats.specs.Checks.{if_then_else_, Res, refused, passed, _>>_, _orElse_, all}
+use Rattle.formats.specs.Checks.{if_then_else_, refusalOf as refusedBy, Res, refused, passed, _>>_, _orElse_, all}
 use Rattle.log.specs.Log.{places, heldBytes}
 use Rattle.controller.specs.declared.Controller.{Controller}
 use Rattle.controller.specs.Controller.{Areas}
-use Rattle.controller.specs.Refusals.{Call, powerOn, byte, tick, press, emptying, isProgram, lent, check}
+use Rattle.lines.specs.Program.{isProgram}
+use Rattle.controller.specs.Refusals.{Call, powerOn, byte, tick, press, emptying, lent, check}
 use Rattle.controller.specs.Calls.{After, call, settled}
 use Rattle.controller.specs.Effects.{isPowerOn}
 use Rattle.controller.proofs.Refusals.{refused-call}
@@ -27,24 +28,19 @@ use Rattle.formats.proofs.Checks.{and-true}
 
 -- ---- checks
 
--- the number that a check refuses with, 0 where it passes
-refusedBy : Res (Unit {0}) → ℕ
-refusedBy (refused n) = n
-refusedBy (passed ok) = 0
-
 by-test : (t : Bool) (e : ℕ) → refusedBy (t orElse e) ≡ (if not t then e else 0)
-unfolding _orElse_ refusedBy
+unfolding _orElse_
 by-test true e = refl
 by-test false e = refl
 
 by-next : (t : Bool) (e : ℕ) (r : Res (Unit {0})) → refusedBy ((t orElse e) >> r) ≡ (if not t then e else refusedBy r)
-unfolding _orElse_ _>>_ refusedBy
+unfolding _orElse_ _>>_
 by-next true e r = refl
 by-next false e r = refl
 
 -- the areas fit, and then one test more
 by-all : (programs : List (List ℕ)) (log t : Bool) (e : ℕ) → refusedBy (lent programs log >> (t orElse e)) ≡ firstOf (all isProgram programs) log t e
-unfolding lent _orElse_ _>>_ refusedBy
+unfolding lent _orElse_ _>>_
 by-all programs log t e = go (all isProgram programs) log t
   where
     go : (a b c : Bool) → refusedBy (((a orElse 30) >> (b orElse 31)) >> (c orElse e)) ≡ firstOf a b c e
@@ -59,7 +55,7 @@ by-lent programs log = by-next (all isProgram programs) 30 (log orElse 31) ∙ a
 
 -- a call is refused with the number of its checks
 refusal-checked : (k : Call) (c : Controller) (a : Areas) → call k c a .refusal ≡ refusedBy (check k c a)
-unfolding call refusedBy
+unfolding call
 refusal-checked k c a = go (check k c a)
   where
     go : (r : Res (Unit {0})) → settled r k c a .refusal ≡ refusedBy r

@@ -15,14 +15,17 @@ use Rattle.lines.specs.Program.{lineAt}
 use Rattle.duration.specs.declared.nesting.Walk.{Walk}
 use Rattle.duration.specs.declared.sums.Sum.{Sum}
 use Rattle.duration.specs.declared.Answer.the-variants.{Refused}
-use Rattle.duration.specs.Loops.{endLine, isTangled, endsInside}
+use Rattle.lines.specs.Loops.{endLine}
+use Rattle.duration.specs.Loops.{isTangled, endsInside}
 use Rattle.duration.specs.Ticks.{runTicks, idlesAt, idles, hasBad}
 use Rattle.duration.specs.Report.{mostTicks, report, answerOf}
 use Rattle.duration.specs.Walk.{isAcrossOne, Walked}
 use Rattle.duration.specs.Summing.{capped, sumOf, toldOf, Nests}
-use Rattle.duration.proofs.Order.{Before, at-first, one-more, told-at, told-well}
+use Rattle.formats.proofs.Checks.{rule-passes, rule-refuses}
+use Rattle.formats.proofs.Refusals.{Before, none-before, one-more}
+use Rattle.duration.proofs.Order.{checks, told-at, told-well}
 use Rattle.duration.proofs.Faults.{inside-is}
-use Rattle.duration.proofs.FirstEnd.{end-within, end-is}
+use Rattle.lines.proofs.FirstEnd.{end-within, end-is}
 use Rattle.duration.proofs.Judging.{nests}
 use Rattle.duration.proofs.Capping.{capped-small, capped-large}
 use Rattle.duration.proofs.Summing.{in-all}
@@ -52,46 +55,46 @@ module _ (s : Sum) where
       ticks-told few = rw (moves, good, le-leb (s .ticks) mostTicks few)
 
 pub no-program : (p : List ℕ) → length p ≢ 1600 → Refused 30 ≡ answerOf (report p)
-no-program p ne = refusing p 30 (told-at p (endLine p) refl 0 (omega arith) (at-first p (endLine p)) (ne-eqb (length p) 1600 ne))
+no-program p ne = refusing p 30 (told-at p (endLine p) refl 0 30 (none-before (checks p (endLine p))) (rule-refuses 30 (ne-eqb (length p) 1600 ne)))
 
 module _ (p : List ℕ) (size : length p ≡ 1600) (e : ℕ) (is : e ≡ endLine p) where
-  before-042 : Before p e 1
-  before-042 = one-more p e 0 (eq-eqb (length p) 1600 size) (at-first p e)
+  before-042 : Before (checks p e) 1
+  before-042 = one-more (checks p e) 0 (rule-passes 30 (eq-eqb (length p) 1600 size)) (none-before (checks p e))
 
   pub no-end : e ≡ 200 → Refused 42 ≡ answerOf (report p)
-  no-end none = refusing p 42 (told-at p e is 1 (omega arith) before-042 (le-ltb e 200 (omega arith)))
+  no-end none = refusing p 42 (told-at p e is 1 42 before-042 (rule-refuses 42 (le-ltb e 200 (omega arith))))
 
   module _ (some : e ≢ 200) where
     pub in-program : e < 200
     in-program = let le = end-within p in omega arith
 
-    before-040 : Before p e 2
-    before-040 = one-more p e 1 (lt-ltb e 200 in-program) before-042
+    before-040 : Before (checks p e) 2
+    before-040 = one-more (checks p e) 1 (rule-passes 42 (lt-ltb e 200 in-program)) before-042
 
     module _ (w : Walk) (q : Walked p e w) where
       pub tangled : w .fault ≡ true → Refused 40 ≡ answerOf (report p)
-      tangled found = refusing p 40 (told-at p e is 2 (omega arith) before-040 (ap not (sym (q .fault) ∙ found)))
+      tangled found = refusing p 40 (told-at p e is 2 40 before-040 (rule-refuses 40 (ap not (sym (q .fault) ∙ found))))
 
       module _ (plain : w .fault ≡ false) where
         not-tangled : isTangled p e ≡ false
         not-tangled = sym (q .fault) ∙ plain
 
-        before-041 : Before p e 3
-        before-041 = one-more p e 2 (ap not not-tangled) before-040
+        before-041 : Before (checks p e) 3
+        before-041 = one-more (checks p e) 2 (rule-passes 40 (ap not not-tangled)) before-040
 
         module _ (b : Bool) (across : b ≡ isAcrossOne e 200 (w .nexts)) where
           inside-by : endsInside p e ≡ b
           inside-by = inside-is p e (omega (arith, in-program)) ∙ ap (isAcrossOne e 200) (sym (q .nexts plain)) ∙ sym across
 
           pub ends-inside : b ≡ true → Refused 41 ≡ answerOf (report p)
-          ends-inside found = refusing p 41 (told-at p e is 3 (omega arith) before-041 (ap not (inside-by ∙ found)))
+          ends-inside found = refusing p 41 (told-at p e is 3 41 before-041 (rule-refuses 41 (ap not (inside-by ∙ found))))
 
           module _ (outside : b ≡ false) where
             pub nests-so : Nests p 0 e
             nests-so = rw is (nests p (endLine p) (end-is p (rw is at in-program)) (rw is at not-tangled) (rw is at (inside-by ∙ outside)))
 
-            before-044 : Before p e 4
-            before-044 = one-more p e 3 (ap not (inside-by ∙ outside)) before-041
+            before-044 : Before (checks p e) 4
+            before-044 = one-more (checks p e) 3 (rule-passes 41 (ap not (inside-by ∙ outside))) before-041
 
             module _ (s : Sum) (sum : s ≡ sumOf p 0 e) where
               idle-by : s .idle ≡ idles p e
@@ -107,23 +110,22 @@ module _ (p : List ℕ) (size : length p ≡ 1600) (e : ℕ) (is : e ≡ endLine
               ticks-by = ap (λ (x : Sum). x .ticks) sum
 
               idle-loop : s .idle ≡ true → report p ≡ refused 44
-              idle-loop found = told-at p e is 4 (omega arith) before-044 (ap not (sym idle-by ∙ found))
+              idle-loop found = told-at p e is 4 44 before-044 (rule-refuses 44 (ap not (sym idle-by ∙ found)))
 
               module _ (moves : s .idle ≡ false) where
-                before-014 : Before p e 5
-                before-014 = one-more p e 4 (ap not (sym idle-by ∙ moves)) before-044
+                before-014 : Before (checks p e) 5
+                before-014 = one-more (checks p e) 4 (rule-passes 44 (ap not (sym idle-by ∙ moves))) before-044
 
                 bad-line : s .bad ≡ true → report p ≡ refused 14
-                bad-line found = told-at p e is 5 (omega arith) before-014 (ap not (sym bad-by ∙ found))
+                bad-line found = told-at p e is 5 14 before-014 (rule-refuses 14 (ap not (sym bad-by ∙ found)))
 
                 module _ (good : s .bad ≡ false) where
-                  before-043 : Before p e 6
-                  before-043 = one-more p e 5 (ap not (sym bad-by ∙ good)) before-014
+                  before-043 : Before (checks p e) 6
+                  before-043 = one-more (checks p e) 5 (rule-passes 14 (ap not (sym bad-by ∙ good))) before-014
 
                   too-many : mostTicks < s .ticks → report p ≡ refused 43
                   too-many more =
-                      told-at p e is 6 (omega arith) before-043
-                      (lt-leb (runTicks p 0 e) mostTicks (above (runTicks p 0 e) (rw ticks-by at more)))
+                      told-at p e is 6 43 before-043 (rule-refuses 43 (lt-leb (runTicks p 0 e) mostTicks (above (runTicks p 0 e) (rw ticks-by at more))))
                     where
                       above : (n : ℕ) → mostTicks < capped n → mostTicks < n
                       above n lt = go (leb n mostTicks) refl
@@ -137,7 +139,7 @@ module _ (p : List ℕ) (size : length p ≡ 1600) (e : ℕ) (is : e ≡ endLine
                   few-enough : s .ticks ≤ mostTicks → report p ≡ passed (s .ticks)
                   few-enough le =
                       let n : runTicks p 0 e ≡ s .ticks = small (runTicks p 0 e) (rw ticks-by at le) ∙ sym ticks-by in
-                      told-well p e is (one-more p e 6 (le-leb (runTicks p 0 e) mostTicks (rw n le)) before-043) ∙ ap passed n
+                      told-well p e is (one-more (checks p e) 6 (rule-passes 43 (le-leb (runTicks p 0 e) mostTicks (rw n le))) before-043) ∙ ap passed n
                     where
                       small : (n : ℕ) → capped n ≤ mostTicks → n ≡ capped n
                       small n lt = go (leb n mostTicks) refl

@@ -12,8 +12,9 @@ use Rattle.lines.specs.declared.Line.{Line}
 use Rattle.lines.specs.declared.Line.the-variants.{State, For, Next, Bad}
 use Rattle.lines.specs.Line.{readLine, bytesOf}
 use Rattle.lines.specs.Program.{lineAt, firstNext, nextAfter}
-use Rattle.duration.specs.Lines.{someBefore, firstOf}
-use Rattle.duration.specs.Loops.{endLine, nextOf, counterAt, isInside, crosses, startsInOwn, lacksNext, lacksFor, isTangled, endsInside}
+use Rattle.lines.specs.Searches.{someBefore, firstOf}
+use Rattle.lines.specs.Loops.{endLine, nextOf, counterAt}
+use Rattle.duration.specs.Loops.{isInside, crosses, startsInOwn, lacksNext, lacksFor, isTangled, endsInside}
 use Rattle.duration.specs.Ticks.{past, summed, runTicks, idlesAt, idles, hasBad}
 use Rattle.duration.specs.Report.{reportTo, report}
 use Rattle.duration.specs.Total.{mostTotal, grandTotal, toldTotal}

@@ -13,12 +13,14 @@ use Rattle.formats.proofs.Checks.{both-true, either-true, or-true, or-false, an
 use Rattle.lines.specs.declared.Line.{Line}
 use Rattle.lines.specs.declared.Line.the-variants.{State, For, Next, Bad}
 use Rattle.lines.specs.Program.{lineAt}
-use Rattle.duration.specs.Lines.{someBefore}
-use Rattle.duration.specs.Loops.{nextOf, counterAt, isInside, isNext, crosses, startsInOwn, lacksNext, lacksFor, isTangled, endsInside}
+use Rattle.lines.specs.Searches.{someBefore}
+use Rattle.lines.specs.Loops.{nextOf, counterAt}
+use Rattle.duration.specs.Loops.{isInside, crosses, startsInOwn, lacksNext, lacksFor, isTangled, endsInside}
+use Rattle.lines.specs.Line.{isNext}
 use Rattle.duration.specs.Walk.{openAt, isAcrossOne, isFault}
-use Rattle.duration.proofs.Lines.{some-line, line-some, some-same}
-use Rattle.duration.proofs.Pairs.{same-next, counter-ranged, next-ranged, counter-of, begins, counted, of-within, pairs, own-next, inside}
-use Rattle.duration.proofs.Pairs.{same-next, counter-ranged, next-ranged, counter-of, begins, counted, of-within, pairs, own-next, inside}
+use Rattle.lines.proofs.Searches.{some-line, line-some, some-same}
+use Rattle.lines.proofs.Pairs.{same-next, counter-ranged, next-ranged, counter-of, begins, counted, of-within, pairs, own-next}
+use Rattle.duration.proofs.Inside.{inside}
 use Rattle.duration.proofs.Walks.{across, has-for}
 
 module _ (p : List ℕ) (j : ℕ) where

@@ -12,13 +12,16 @@ use Rattle.formats.proofs.Checks.{both-false, neither}
 use Rattle.lines.specs.declared.Line.the-variants.{State, For, Next, Bad}
 use Rattle.lines.specs.Line.{isBad}
 use Rattle.lines.specs.Program.{lineAt}
-use Rattle.duration.specs.Lines.{someBefore}
-use Rattle.duration.specs.Loops.{nextOf, counterAt, isInside, isNext, crosses, startsInOwn, lacksNext, lacksFor, isTangled, endsInside}
+use Rattle.lines.specs.Searches.{someBefore}
+use Rattle.lines.specs.Loops.{nextOf, counterAt}
+use Rattle.duration.specs.Loops.{isInside, crosses, startsInOwn, lacksNext, lacksFor, isTangled, endsInside}
+use Rattle.lines.specs.Line.{isNext}
 use Rattle.duration.specs.Ticks.{runTicks, idlesAt, idles, hasBad}
-use Rattle.duration.specs.Reasons.{End}
+use Rattle.lines.specs.Loops.{End}
 use Rattle.duration.specs.Summing.{Nests}
-use Rattle.duration.proofs.Lines.{no-line, some-line}
-use Rattle.duration.proofs.Pairs.{begins, pairs, is-inside}
+use Rattle.lines.proofs.Searches.{no-line, some-line}
+use Rattle.lines.proofs.Pairs.{begins, pairs}
+use Rattle.duration.proofs.Inside.{is-inside}
 use Rattle.duration.proofs.Faults.{same-counter}
 use Rattle.duration.proofs.Sound.{Closes, Sound}
 

@@ -1,10 +1,6 @@
-pub mod Lines
-pub mod Pairs
+pub mod Inside
 pub mod Ticks
-pub mod Reaching
 pub mod Sound
-pub mod Arriving
-pub mod Turns
 pub mod Passing
 pub mod Number
 pub mod Capping
@@ -14,7 +10,6 @@ pub mod OtherKinds
 pub mod Walks
 pub mod Faults
 pub mod Walking
-pub mod FirstEnd
 pub mod Judging
 pub mod Order
 pub mod Answers

@@ -10,25 +10,27 @@ use Rattle.lines.specs.Program.{lineAt}
 use Rattle.running.specs.declared.Ran.{Ran}
 use Rattle.running.specs.Running.{free, allFree, begun, stopped, withOutputs, stops, start}
 use Rattle.running.proofs.Steps.{end-mark}
-use Rattle.duration.specs.ByTheRule.{after, EndsAfter, TakesTicks}
+use Rattle.running.specs.Ticking.{after, EndsAfter}
+use Rattle.duration.specs.ByTheRule.{TakesTicks}
 use Rattle.duration.specs.Ticks.{runTicks, idles, hasBad}
 use Rattle.duration.specs.Loops.{isTangled, endsInside}
-use Rattle.duration.specs.Reasons.{End}
-use Rattle.duration.proofs.Lines.{replicated}
-use Rattle.duration.proofs.Arriving.{Arrives, Free, Passes}
+use Rattle.lines.specs.Loops.{End}
+use Rattle.formats.proofs.Parts.{replicated}
+use Rattle.running.proofs.Reaching.{RunsOn}
+use Rattle.running.proofs.Arriving.{Arrives, Free}
 use Rattle.duration.proofs.Judging.{sound}
 use Rattle.duration.proofs.Sound.{Sound, whole}
-use Rattle.duration.proofs.Passing.{passes}
+use Rattle.duration.proofs.Passing.{Passes, passes}
 
 module _ (p : List ℕ) (e : ℕ) (s : Sound p e) (o : ℕ) (mark : lineAt p e ≡ State o 0) (outputs : ℕ) where
-  arrives : Arrives p (start p 0 outputs) (runTicks p 0 e) e allFree 0 (e - 0)
+  arrives : Arrives p RunsOn (start p 0 outputs) (runTicks p 0 e) e allFree 0 (e - 0)
   unfolding start Passes Free
   arrives =
       passes p e s e 0 e (omega arith) (omega arith) (omega arith) (whole p e s)
       allFree refl (λ k c x from to is. replicated 4 free (c - 1)) (begun 0 outputs) (record { on = refl; line = refl; counters = refl }) 0 400 (omega arith)
       (omega (arith, s .inProgram))
 
-  ends-so : (a : Arrives p (start p 0 outputs) (runTicks p 0 e) e allFree 0 (e - 0)) → EndsAfter p (runTicks p 0 e) (start p 0 outputs)
+  ends-so : (a : Arrives p RunsOn (start p 0 outputs) (runTicks p 0 e) e allFree 0 (e - 0)) → EndsAfter p (runTicks p 0 e) 11 (start p 0 outputs)
   unfolding stopped
   ends-so a =
       let here : lineAt p (a .run .line) ≡ State o 0 = ap (lineAt p) (a .at .line) ∙ mark in
@@ -37,7 +39,7 @@ module _ (p : List ℕ) (e : ℕ) (s : Sound p e) (o : ℕ) (mark : lineAt p e �
       record { before = a .reaches .before; event = ap (λ (x : Ran). x .event) end; off = ap (λ (x : Ran). x .run .on) end }
 
   -- whatever the outputs were
-  sound-ends : EndsAfter p (runTicks p 0 e) (start p 0 outputs)
+  sound-ends : EndsAfter p (runTicks p 0 e) 11 (start p 0 outputs)
   sound-ends = ends-so arrives
 
 -- So does a program that no test before 043 refuses.

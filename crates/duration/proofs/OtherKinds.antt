@@ -10,17 +10,10 @@ use Rattle.lines.proofs.Line as L
 use Rattle.lines.specs.declared.Line.{Line}
 use Rattle.lines.specs.declared.Line.the-variants.{State, For, Next, Bad}
 use Rattle.lines.specs.Program.{lineAt, nextAfter}
-use Rattle.duration.specs.Loops.{isEnd, nextOf}
+use Rattle.lines.specs.Loops.{nextOf}
 use Rattle.duration.specs.Walk.{walkedLine}
 use Rattle.duration.specs.Summing.{noSum, plainSum}
-use Rattle.duration.proofs.Pairs.{next-of}
-
--- a line that is no State
-pub no-end : (l : Line) → OneOf (1 ∷ 2 ∷ 3 ∷ []) (tagOf L.the-type l) → false ≡ isEnd l
-no-end (State o t) h = absurd (miss (1 ∷ 2 ∷ 3 ∷ []) 0 tt h)
-no-end (For c x) h = refl
-no-end (Next c) h = refl
-no-end Bad h = refl
+use Rattle.lines.proofs.Pairs.{next-of}
 
 -- ---- a line of the walk, whose number is i
 

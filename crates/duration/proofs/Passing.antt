@@ -2,34 +2,41 @@
 -- Assumes nothing.
 use Prim.Native.Nat.{ℕ, zero, suc, _+_, _*_, _-_, _≤_, _<_}
 use native.Mathlib.Omega.{arith}
-use native.Mathlib.Nat.{zero-mul, zero-add}
-use mathlib.Core.Path.{_≡_, refl, sym, ap, ap₂, _∙_}
+use mathlib.Core.Path.{_≡_, refl, sym, ap, _∙_}
+use mathlib.Core.Logic.{_≢_}
 use mathlib.Core.Bool.{Bool, true, false}
 use mathlib.Core.List.{List}
-use lib.ListN.{length, getD, set}
+use lib.ListN.{length, getD, length-set}
+use lib.Seq.{getD-set-other}
 use lib.Dec.{ltb}
 use borrow.Author.Tests.{ltb-true, ltb-false}
 use Rattle.lines.specs.declared.Line.{Line}
 use Rattle.lines.specs.declared.Line.the-variants.{State, For, Next, Bad}
 use Rattle.lines.specs.Program.{lineAt, FirstFrom}
+use Rattle.lines.specs.Loops.{nextOf}
+use Rattle.lines.proofs.Pairs.{state-no-for, counter-ranged, counter-of, own-next}
 use Rattle.running.specs.declared.Counter.{Counter}
 use Rattle.running.specs.declared.Run.{Run}
-use Rattle.running.specs.Running.{free, counter, atLine, withCounter, withOutputs, waiting, isForOrNext, runDue, most}
-use Rattle.running.proofs.Steps.{state-rests, for-takes, none-passes}
-use Rattle.duration.specs.Loops.{nextOf}
+use Rattle.running.specs.Running.{free, atLine, withOutputs, waiting, runDue}
+use Rattle.running.specs.Ticking.{Runs}
+use Rattle.running.proofs.Reaching.{RunsOn, at-once, held-runs, state-waits}
+use Rattle.running.proofs.Arriving.{At, few-sum, few-then, fresh, same, Arrives, led, Free}
+use Rattle.running.proofs.Looping.{with, Body, none-loop, some-loop}
 use Rattle.duration.specs.Ticks.{runTicks}
-use Rattle.duration.proofs.Pairs.{state-no-for}
 use Rattle.duration.proofs.Ticks.{run-none, run-state, run-loop}
-use Rattle.duration.proofs.Reaching.{Reaches, at-once, waits}
-use Rattle.duration.proofs.Arriving.{At, few-sum, few-then, fresh, same, Arrives, led, goes-to, Free, Passes}
 use Rattle.duration.proofs.Sound.{Sound, Whole, first, no-next, rest, body, behind}
-use Rattle.duration.proofs.Turns.{turns}
+
+-- The running rule passes from line i to line j in as many ticks as the lines take, and runs on meanwhile.
+unfoldable pub Passes : List ℕ → ℕ → ℕ → Type 0
+Passes p i j =
+    (cs : List Counter) → length cs ≡ 4 → Free p i j cs → (r : Run) → At i cs r → (n left : ℕ) → n + left ≡ 400 → j - i ≤ left
+    → Arrives p RunsOn (runDue p left n r) (runTicks p i j) j cs n (j - i)
 
 module _ (p : List ℕ) (e : ℕ) (s : Sound p e) where
   module _ (i j : ℕ) (le : j ≤ e) (lt : i < j) (w : Whole p i j) (cs : List Counter) (four : length cs ≡ 4) (frees : Free p i j cs)
       (r : Run) (a : At i cs r) (n left : ℕ) (sum : n + left ≡ 400) (enough : j - i ≤ left) where
     Goal : Type 0
-    Goal = Arrives p (runDue p left n r) (runTicks p i j) j cs n (j - i)
+    Goal = Arrives p RunsOn (runDue p left n r) (runTicks p i j) j cs n (j - i)
 
     in-program : j ≤ 200
     in-program = omega (arith, s .inProgram)
@@ -44,102 +51,78 @@ module _ (p : List ℕ) (e : ℕ) (s : Sound p e) where
     state-passes o t is on =
         let above = s .timed i o t (omega arith) is in
         let here : lineAt p (r .line) ≡ State o t = ap (lineAt p) (a .line) ∙ is in
-        let held : Run = waiting t (withOutputs o r) in
-        let next : Run = atLine (r .line + 1) (waiting 1 held) in
         let far : r .line < 199 = omega (arith, a .line, s .inProgram) in
-        let first-way : Reaches p (runDue p left n r) t (runDue p most 0 next) =
-        rw (state-rests p r o t here above left n) (waits p t n held above (a .on) refl far) in
-        let q = on cs four (later (i + 1) (omega arith)) next (record {
+        let q = on cs four (later (i + 1) (omega arith)) (atLine (r .line + 1) (waiting 1 (withOutputs o r))) (record {
           on = a .on;
           line = ap (λ l. l + 1) (a .line);
           counters = a .counters;
         }) 0 400 (omega arith) (omega arith) in
-        led first-way q (run-state p i j lt in-program is) (fresh (omega (arith, few-sum (q .few))))
+        led RunsOn (state-waits p RunsOn r o t here above (a .on) far (held-runs t (withOutputs o r) (a .on)) left n) q (run-state p i j lt in-program is)
+        (fresh (omega (arith, few-sum (q .few))))
 
     module _ (c x : ℕ) (is : lineAt p i ≡ For c x) where
-      here : lineAt p (r .line) ≡ For c x
-      here = ap (lineAt p) (a .line) ∙ is
+      abbrev nx : ℕ
+      nx = nextOf p i
 
-      inside : nextOf p i < j
+      abbrev ticks : ℕ
+      ticks = runTicks p (i + 1) (nextOf p i)
+
+      inside : nx < j
       inside = w .fors i c x (omega arith) lt is
 
-      pairing : FirstFrom p c (i + 1) (nextOf p i)
-      pairing = first p e s (omega arith) is
+      near : nx < 199
+      near = omega (arith, inside, s .inProgram)
 
-      first-next : FirstFrom p c (r .line + 1) (nextOf p i)
-      first-next = rw (a .line) pairing
+      pairing : FirstFrom p c (i + 1) nx
+      pairing = first p e s (omega arith) is
 
       own : getD cs (c - 1) free ≡ free
       unfolding Free
       own = frees i c x (omega arith) lt is
 
-      idle : counter r c .count ≡ 0
-      idle = ap (λ (v : Counter). v .count) (ap (λ l. getD l (c - 1) free) (a .counters) ∙ own)
+      -- a loop inside it that had its counter would have its Next
+      not-own : (k d y : ℕ) → i + 1 ≤ k → k < nx → lineAt p k ≡ For d y → d ≡ c → ⊥
+      not-own k d y from to at one =
+          let z = own-next p i k c (counter-of p i is) (counter-of p k at ∙ one) (counter-ranged p i c x is .0) (omega arith) (omega (arith, near)) to in
+          omega (arith, z, s .nests .nested i k (omega arith) (omega arith) (omega arith) to)
 
-      some : left ≡ suc (left - 1)
-      some = omega arith
+      -- so the loops inside it have other counters, and these are free
+      others : (m : ℕ) → Free p (i + 1) nx (with p Runs i c x nx is pairing near cs four own ticks m)
+      unfolding Free
+      others m k d y from to at =
+          let a = counter-ranged p i c x is in
+          let b = counter-ranged p k d y at in
+          let other : d - 1 ≢ c - 1 = λ z. not-own k d y from to at (omega (arith, z, a .0, b .0)) in
+          getD-set-other cs (c - 1) (d - 1) (record { count = m; line = i }) free other ∙ frees k d y (omega arith) (omega (arith, inside)) at
+
+      inner-passes : Passes p (i + 1) nx → Body p Runs i c x nx is pairing near cs four own ticks
+      unfolding Passes
+      inner-passes inner m = inner _ (length-set cs (c - 1) (record { count = m; line = i }) ∙ four) (others m)
 
       -- the loop is left, in its count times the ticks of its body
       Loop : Type 0
-      Loop = Arrives p (runDue p left n r) (x * runTicks p (i + 1) (nextOf p i)) (nextOf p i + 1) cs n (nextOf p i + 1 - i)
+      Loop = Arrives p RunsOn (runDue p left n r) (x * ticks) (nx + 1) cs n (nx + 1 - i)
 
-      after-loop : Loop → Passes p (nextOf p i + 1) j → Goal
+      looped : Passes p (i + 1) nx → (m : ℕ) → x ≡ m → Loop
+      unfolding Loop
+      looped inner zero z =
+          none-loop p Runs i c x nx is pairing near cs four own ticks r a n left sum (omega (arith, inside)) z
+      looped inner (suc m) z =
+          some-loop p Runs i c x nx is pairing near cs four own ticks r a n left sum (omega (arith, inside)) m z
+          (s .moves i c x (omega arith) is (omega arith)) (inner-passes inner)
+
+      after-loop : Loop → Passes p (nx + 1) j → Goal
       unfolding Loop Goal Passes
       after-loop b on =
           let longer = pairing .notBefore in
-          let q = on cs four (later (nextOf p i + 1) (omega arith)) (b .run) (b .at) (b .lines) (b .left) (b .budget)
+          let q = on cs four (later (nx + 1) (omega arith)) (b .run) (b .at) (b .lines) (b .left) (b .budget)
           (omega (arith, b .budget, sum, few-sum (b .few))) in
-          let all : nextOf p i + 1 - i + (j - (nextOf p i + 1)) ≡ j - i = omega (arith, inside) in
-          let few = few-then all (b .few) (q .few) in
-          led (b .reaches) q (run-loop p i j lt in-program is) (rw (run-loop p i j lt in-program is) few)
+          let all : nx + 1 - i + (j - (nx + 1)) ≡ j - i = omega (arith, inside) in
+          let few = few-then {last = q .lines} all (b .few) (q .few) in
+          led RunsOn (b .reaches) q (run-loop p i j lt in-program is) (rw (run-loop p i j lt in-program is) few)
 
-      -- a loop of none
-      none-loop : x ≡ 0 → Loop
-      unfolding Loop
-      none-loop none =
-          let z : x * runTicks p (i + 1) (nextOf p i) ≡ 0 = ap (λ y. y * runTicks p (i + 1) (nextOf p i)) none ∙ zero-mul (runTicks p (i + 1) (nextOf p i)) in
-          let go : runDue p left n r ≡ runDue p (left - 1) (n + 1) (atLine (nextOf p i + 1) r) =
-          ap (λ l. runDue p l n r) some
-          ∙ goes-to p (left - 1) n r (nextOf p i + 1) r (ap isForOrNext here)
-          (none-passes p r c x here idle (omega (arith, a .line, s .inProgram)) (nextOf p i) first-next none (omega (arith, inside, s .inProgram))) in
-          record {
-            run = atLine (nextOf p i + 1) r;
-            lines = n + 1;
-            left = left - 1;
-            budget = omega (arith, some);
-            few = same z (omega (arith, pairing .notBefore));
-            reaches = rw z (at-once p go);
-            at = record { on = a .on; line = refl; counters = a .counters };
-          }
-
-      -- a loop of some
-      some-loop : (m : ℕ) → x ≡ suc m → Passes p (i + 1) (nextOf p i) → Loop
-      unfolding Loop Free
-      some-loop m is-some inner =
-          let begun : Run = withCounter c (record { count = x; line = r .line }) r in
-          let go : runDue p left n r
-          ≡ runDue p (left - 1) (n + 1) (atLine (r .line + 1) begun) =
-          ap (λ l. runDue p l n r) some
-          ∙ goes-to p (left - 1) n r (r .line + 1) begun (ap isForOrNext here)
-          (for-takes p r c x here idle (omega (arith, a .line, s .inProgram)) (nextOf p i) first-next (omega arith)) in
-          let at : At (i + 1) (set cs (c - 1) (record { count = suc m; line = i })) (atLine (r .line + 1) begun) =
-          record {
-            on = a .on;
-            line = ap (λ l. l + 1) (a .line);
-            counters = ap₂ (λ l (v : Counter). set l (c - 1) v) (a .counters) (ap₂ (λ y l. record { count = y; line = l }) is-some (a .line));
-          } in
-          let q = turns p e s i c x (omega arith) is inner cs four (λ k d y from to. frees k d y (omega arith) (omega (arith, inside))) own
-          (s .moves i c x (omega arith) is (omega arith)) m (atLine (r .line + 1) begun) at (n + 1) (left - 1) (omega (arith, some))
-          (omega (arith, some, inside)) in
-          led (at-once p go) q (ap (λ y. y * runTicks p (i + 1) (nextOf p i)) is-some ∙ sym (zero-add _))
-          (fresh (omega (arith, few-sum (q .few), pairing .notBefore)))
-
-      for-passes : Passes p (i + 1) (nextOf p i) → Passes p (nextOf p i + 1) j → Goal
-      for-passes inner on = after-loop (go x refl) on
-        where
-          go : (m : ℕ) → x ≡ m → Loop
-          go zero z = none-loop z
-          go (suc m) z = some-loop m z inner
+      for-passes : Passes p (i + 1) nx → Passes p (nx + 1) j → Goal
+      for-passes inner on = after-loop (looped inner x refl) on
 
   -- by its first line
   module _ (i j : ℕ) (le : j ≤ e) (lt : i < j) (w : Whole p i j) (all : (k m : ℕ) → i < k → m ≤ j → k ≤ m → Whole p k m → Passes p k m) where
@@ -167,7 +150,7 @@ module _ (p : List ℕ) (e : ℕ) (s : Sound p e) where
         left = left;
         budget = sum;
         few = same z (omega arith);
-        reaches = rw z (at-once p refl);
+        reaches = rw z (at-once p RunsOn refl);
         at = record { on = a .on; line = a .line ∙ is; counters = a .counters };
       }
 

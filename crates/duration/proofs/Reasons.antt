@@ -15,15 +15,17 @@ use Rattle.lines.specs.Line.{isBad}
 use Rattle.lines.specs.Program.{lineAt, FirstFrom}
 use Rattle.lines.proofs.Lines.{is-bad}
 use Rattle.lines.proofs.Search.{none-next, next-none}
-use Rattle.duration.specs.Lines.{someBefore}
-use Rattle.duration.specs.Loops.{nextOf, forCounter, counterAt, isInside, isNext, crosses}
+use Rattle.lines.specs.Searches.{someBefore}
+use Rattle.lines.specs.Loops.{nextOf, counterAt}
+use Rattle.lines.specs.Line.{forCounter, isNext}
+use Rattle.duration.specs.Loops.{isInside, crosses}
 use Rattle.duration.specs.Loops.{startsInOwn, lacksNext, lacksFor, isTangled, endsInside}
 use Rattle.duration.specs.Ticks.{runTicks, isIdle, idlesAt, idles, hasBad}
 use Rattle.duration.specs.Reasons.{Loop, Tangled, crossing, inOwn, noNext, noFor, EndInside, inside, BadBefore, bad}
 use Rattle.duration.specs.Reasons.{TakesNone, nothing, stateOf0, nextLine, badLine, loopOfNone, idleLoop, Idle, idle}
-use Rattle.duration.proofs.Lines.{some-line, line-some}
-use Rattle.duration.proofs.Pairs.{counter-ranged, counter-of, next-of, next-after, begins, begins-so, pairs, paired, is-inside}
-use Rattle.duration.proofs.Pairs.{inside as inside-says}
+use Rattle.lines.proofs.Searches.{some-line, line-some}
+use Rattle.lines.proofs.Pairs.{counter-ranged, counter-of, next-of, next-after, begins, begins-so, pairs, paired}
+use Rattle.duration.proofs.Inside.{is-inside, inside as inside-says}
 use Rattle.duration.proofs.Ticks.{run-none, run-state, run-loop, run-next, run-bad}
 
 -- ---- lines that take no tick

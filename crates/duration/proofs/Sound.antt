@@ -10,10 +10,10 @@ use lib.Dec.{eqb, ltb}
 use borrow.Author.Tests.{eqb-true, eqb-false, ltb-true, ltb-false}
 use Rattle.lines.specs.declared.Line.the-variants.{State, For, Next, Bad}
 use Rattle.lines.specs.Program.{lineAt, FirstFrom}
-use Rattle.duration.specs.Loops.{nextOf}
+use Rattle.lines.specs.Loops.{nextOf}
 use Rattle.duration.specs.Ticks.{runTicks}
 use Rattle.duration.specs.Summing.{Nests}
-use Rattle.duration.proofs.Pairs.{for-no-next, begins, pairs}
+use Rattle.lines.proofs.Pairs.{for-no-next, begins, pairs}
 
 -- the Next on line m has its For on line k, which is not before line i
 pub record Closes (p : List ℕ) (i m : ℕ) : Type 0 where

@@ -15,14 +15,14 @@ use Rattle.lines.specs.declared.Line.the-variants.{State, For, Next, Bad}
 use Rattle.lines.specs.Line.{isBad}
 use Rattle.lines.specs.Program.{lineAt, nextAfter}
 use Rattle.duration.specs.declared.sums.Sum.{Sum}
-use Rattle.duration.specs.Lines.{someBefore}
-use Rattle.duration.specs.Loops.{nextOf}
+use Rattle.lines.specs.Searches.{someBefore}
+use Rattle.lines.specs.Loops.{nextOf}
 use Rattle.duration.specs.Ticks.{runTicks, isIdle, idlesAt}
 use Rattle.duration.specs.Summing.{moreTicks, capped, noSum, plainSum, joined, repeated, someIn, sumOf, Nests}
 use Rattle.duration.specs.Report.{mostTicks}
 use Rattle.duration.proofs.Capping.{capped-le, capped-small, capped-left, capped-right, capped-times, capped-zero}
-use Rattle.duration.proofs.Lines.{some-line, line-some}
-use Rattle.duration.proofs.Pairs.{next-of, next-after, pairs}
+use Rattle.lines.proofs.Searches.{some-line, line-some}
+use Rattle.lines.proofs.Pairs.{next-of, next-after, pairs}
 use Rattle.duration.proofs.Ticks.{run-none, run-state, run-loop, run-next, run-bad}
 
 -- ---- sums behind each other

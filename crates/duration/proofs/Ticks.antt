@@ -10,9 +10,9 @@ use borrow.Author.Tests.{ltb-true, ltb-false, lt-ltb, le-ltb}
 use Rattle.lines.specs.declared.Line.{Line}
 use Rattle.lines.specs.declared.Line.the-variants.{State, For, Next, Bad}
 use Rattle.lines.specs.Program.{lineAt}
-use Rattle.duration.specs.Loops.{nextFor, nextOf}
+use Rattle.lines.specs.Loops.{nextFor, nextOf}
 use Rattle.duration.specs.Ticks.{lineTicks, lineAfter, past, summed, runTicks}
-use Rattle.duration.proofs.Pairs.{next-after, of-within}
+use Rattle.lines.proofs.Pairs.{next-after, of-within}
 
 module _ (p : List ℕ) where
   -- a run of lines goes on to a later line

@@ -8,10 +8,10 @@ use mathlib.Core.List.{List}
 use lib.ListN.{replicate}
 use Rattle.lines.specs.Program.{lineAt}
 use Rattle.duration.specs.declared.nesting.Walk.{Walk}
-use Rattle.duration.specs.Lines.{someBefore}
-use Rattle.duration.specs.Loops.{nextOf}
+use Rattle.lines.specs.Searches.{someBefore}
+use Rattle.lines.specs.Loops.{nextOf}
 use Rattle.duration.specs.Walk.{openAt, isFault, walkedLine, Walked}
-use Rattle.duration.proofs.Lines.{line-some}
+use Rattle.lines.proofs.Searches.{line-some}
 use Rattle.duration.proofs.Faults.{tangled-is}
 
 pub record Walking (p : List ℕ) (e i : ℕ) (w : Walk) : Type 0 where

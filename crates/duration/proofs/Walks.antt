@@ -14,11 +14,15 @@ use Rattle.formats.proofs.Checks.{both-true, either-true, or-true, by-both}
 use Rattle.lines.specs.declared.Line.{Line}
 use Rattle.lines.specs.declared.Line.the-variants.{State, For, Next, Bad}
 use Rattle.lines.specs.Program.{lineAt}
-use Rattle.duration.specs.Lines.{someBefore}
-use Rattle.duration.specs.Loops.{nextOf, counterAt, isInside}
+use Rattle.lines.specs.Searches.{someBefore}
+use Rattle.lines.specs.Loops.{nextOf, counterAt}
+use Rattle.duration.specs.Loops.{isInside}
 use Rattle.duration.specs.Walk.{opened, openAt, isAcross, isAcrossOne}
-use Rattle.duration.proofs.Lines.{replicated, some-line, line-some, last-or-before}
-use Rattle.duration.proofs.Pairs.{same-next, counter-ranged, counter-of, begins-so, next-by, counted, pairs, later-next, inside, is-inside}
+use Rattle.formats.proofs.Parts.{replicated}
+use Rattle.lines.proofs.Searches.{some-line, line-some}
+use Rattle.formats.proofs.Order.{last-or-before}
+use Rattle.lines.proofs.Pairs.{same-next, counter-ranged, counter-of, begins-so, next-by, counted, pairs, later-next}
+use Rattle.duration.proofs.Inside.{inside, is-inside}
 
 -- ---- one of four
 

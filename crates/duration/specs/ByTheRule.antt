@@ -1,29 +1,10 @@
 -- What the number is: that of demand 3's running rule.
 -- 02, item 6: "Prove that the number is the one demand 3's running rule takes, the rule read without the end of the tick count (033)."
-use Prim.Native.Nat.{ℕ, zero, suc, _<_}
-use mathlib.Core.Path.{_≡_}
-use mathlib.Core.Bool.{true, false}
+use Prim.Native.Nat.{ℕ}
 use mathlib.Core.List.{List}
-use Rattle.running.specs.declared.Ran.{Ran}
-use Rattle.running.specs.Running.{start, tick}
-
--- What the n-th tick after x did, all of them taken unpaused: the run after it, and the event that it raised, 0 for none. The tick count is no
--- part of it, so that ticks have no end.
-unfoldable pub after : List ℕ → ℕ → Ran → Ran
-after p zero x = x
-after p (suc n) x = after p n (tick p (x .run))
-
--- The program runs on: no event was raised.
-pub record Runs (x : Ran) : Type 0 where
-  pub on : x .run .on ≡ true
-  pub event : x .event ≡ 0
-
--- The program takes n ticks to its end: before tick n it runs, without an event, and there it ends with event 011. The start itself is tick 0.
-pub record EndsAfter (p : List ℕ) (n : ℕ) (x : Ran) : Type 0 where
-  pub before : (m : ℕ) → m < n → Runs (after p m x)
-  pub event : after p n x .event ≡ 11
-  pub off : after p n x .run .on ≡ false
+use Rattle.running.specs.Running.{start}
+use Rattle.running.specs.Ticking.{EndsAfter}
 
 -- "from a start at line 000 to event 011", whatever the outputs were
 abbrev pub TakesTicks : List ℕ → ℕ → Type 0
-TakesTicks p n = (outputs : ℕ) → EndsAfter p n (start p 0 outputs)
+TakesTicks p n = (outputs : ℕ) → EndsAfter p n 11 (start p 0 outputs)

@@ -1,4 +1,3 @@
-pub mod Lines
 pub mod Loops
 pub mod Ticks
 pub mod Report

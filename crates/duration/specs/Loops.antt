@@ -1,56 +1,18 @@
--- Where a program ends, and the loops that begin before that.
--- 02, item 6: "042 no State with time 0; a For before the first such line pairs with the first later Next of its counter anywhere".
+-- What may be wrong with the loops that begin before the end of a program.
+-- 02, item 6: "040 two such loops cross, one starts inside another of its counter, a For has no Next, or a Next before that line has no For; 041 that
+-- line is inside a loop".
 use Prim.Native.Nat.{ℕ}
-use mathlib.Core.Bool.{Bool, false, true, _&&_, _||_, not}
+use mathlib.Core.Bool.{Bool, _&&_, _||_, not}
 use mathlib.Core.List.{List}
 use lib.Dec.{ltb, eqb}
-use Rattle.lines.specs.declared.Line.{Line}
-use Rattle.lines.specs.declared.Line.the-variants.{State, For, Next, Bad}
-use Rattle.lines.specs.Program.{lineAt, nextAfter}
-use Rattle.duration.specs.Lines.{someBefore, firstOf}
+use Rattle.lines.specs.Line.{isNext}
+use Rattle.lines.specs.Program.{lineAt}
+use Rattle.lines.specs.Searches.{someBefore}
+use Rattle.lines.specs.Loops.{nextOf, counterAt}
 
--- "State with time 0"
-abbrev pub isEnd : Line → Bool
-isEnd (State outputs time) = eqb time 0
-isEnd (For counter count) = false
-isEnd (Next counter) = false
-isEnd Bad = false
-
--- "the first such line"; 200 where there is none
-unfoldable pub endLine : List ℕ → ℕ
-endLine p = firstOf (λ k. isEnd (lineAt p k)) 200 0
-
--- ---- the loop that begins on line k, if a For stands there
-
-abbrev pub nextFor : List ℕ → ℕ → Line → ℕ
-nextFor p k (State outputs time) = 0
-nextFor p k (For counter count) = nextAfter p counter k
-nextFor p k (Next counter) = 0
-nextFor p k Bad = 0
-
--- the line of its Next, "the first later Next of its counter anywhere"; 200 where it has none, 0 where no For stands on line k
-unfoldable pub nextOf : List ℕ → ℕ → ℕ
-nextOf p k = nextFor p k (lineAt p k)
-
-abbrev pub forCounter : Line → ℕ
-forCounter (State outputs time) = 0
-forCounter (For counter count) = counter
-forCounter (Next counter) = 0
-forCounter Bad = 0
-
--- its counter, 0 where no For stands on line k
-unfoldable pub counterAt : List ℕ → ℕ → ℕ
-counterAt p k = forCounter (lineAt p k)
-
--- line i is inside it; a For without a Next counts as open to line 199, but 040 is told of it before any test goes by that
+-- line i is inside the loop that begins on line k; a For without a Next counts as open to line 199, but 040 is told of it before any test goes by that
 unfoldable pub isInside : List ℕ → ℕ → ℕ → Bool
 isInside p k i = ltb k i && ltb i (nextOf p k)
-
-abbrev pub isNext : Line → Bool
-isNext (State outputs time) = false
-isNext (For counter count) = false
-isNext (Next counter) = true
-isNext Bad = false
 
 -- ---- what is wrong at line j, which stands before the end
 

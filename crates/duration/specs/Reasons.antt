@@ -12,19 +12,9 @@ use lib.Dec.{eqb}
 use Rattle.formats.specs.Checks.{if_then_else_}
 use Rattle.lines.specs.declared.Line.the-variants.{State, For, Next, Bad}
 use Rattle.lines.specs.Program.{lineAt, FirstFrom, NoneFrom}
+use Rattle.lines.specs.Loops.{NoEnd, End}
 use Rattle.duration.specs.Report.{mostTicks}
 use Rattle.duration.specs.ByTheRule.{TakesTicks}
-
--- "no State with time 0" on a line before n
-abbrev pub NoEnd : List ℕ → ℕ → Type 0
-NoEnd p n = (k o : ℕ) → k < n → lineAt p k ≢ State o 0
-
--- "the first such line" is line e
-pub record End (p : List ℕ) (e : ℕ) : Type 0 where
-  pub inProgram : e < 200
-  pub outputs : ℕ
-  pub mark : lineAt p e ≡ State outputs 0
-  pub first : NoEnd p e
 
 -- A For on line k, before line e, has counter c and this count, and "pairs with the first later Next of its counter anywhere", line n.
 pub record Loop (p : List ℕ) (e k c count n : ℕ) : Type 0 where

@@ -3,12 +3,13 @@
 use Prim.Native.Nat.{ℕ, _+_, min}
 use mathlib.Core.Bool.{not}
 use mathlib.Core.List.{List}
-use lib.ListN.{length}
-use lib.Dec.{ltb, leb, eqb}
+use lib.Dec.{ltb, leb}
 use Rattle.formats.specs.Checks.{Res, refused, passed, _>>_, _orElse_}
 use Rattle.duration.specs.declared.Answer.{Answer}
 use Rattle.duration.specs.declared.Answer.the-variants.{Takes, Refused}
-use Rattle.duration.specs.Loops.{endLine, isTangled, endsInside}
+use Rattle.lines.specs.Program.{isProgram}
+use Rattle.lines.specs.Loops.{endLine}
+use Rattle.duration.specs.Loops.{isTangled, endsInside}
 use Rattle.duration.specs.Ticks.{runTicks, idles, hasBad}
 
 -- 043: "more than 9,999,999,999 ticks"
@@ -33,7 +34,7 @@ reportTo p e = do
 -- "030 a program not of 1,600 bytes"
 unfoldable pub report : List ℕ → Res ℕ
 report p = do
-  eqb (length p) 1600 orElse 30
+  isProgram p orElse 30
   reportTo p (endLine p)
 
 -- what the code answers

@@ -10,8 +10,8 @@ use Rattle.lines.specs.declared.Line.the-variants.{State, For, Next, Bad}
 use Rattle.lines.specs.Line.{isBad}
 use Rattle.lines.specs.Program.{lineAt}
 use Rattle.duration.specs.declared.sums.Sum.{Sum}
-use Rattle.duration.specs.Lines.{someBefore}
-use Rattle.duration.specs.Loops.{nextOf}
+use Rattle.lines.specs.Searches.{someBefore}
+use Rattle.lines.specs.Loops.{nextOf}
 use Rattle.duration.specs.Ticks.{runTicks, idlesAt}
 use Rattle.duration.specs.Report.{mostTicks, cappedAt}
 

@@ -8,8 +8,8 @@ use Rattle.lines.specs.declared.Line.{Line}
 use Rattle.lines.specs.declared.Line.the-variants.{State, For, Next, Bad}
 use Rattle.lines.specs.Line.{isBad}
 use Rattle.lines.specs.Program.{lineAt}
-use Rattle.duration.specs.Lines.{someBefore}
-use Rattle.duration.specs.Loops.{nextOf}
+use Rattle.lines.specs.Searches.{someBefore}
+use Rattle.lines.specs.Loops.{nextOf}
 
 -- what a line takes: a State its time, a For what its loop takes, if the run of lines inside it takes `body`; any other nothing
 abbrev pub lineTicks : Line → ℕ → ℕ

@@ -10,7 +10,8 @@ use Rattle.lines.specs.declared.Line.{Line}
 use Rattle.lines.specs.declared.Line.the-variants.{State, For, Next, Bad}
 use Rattle.lines.specs.Program.{lineAt}
 use Rattle.duration.specs.declared.nesting.Walk.{Walk}
-use Rattle.duration.specs.Loops.{nextOf, isTangled}
+use Rattle.lines.specs.Loops.{nextOf}
+use Rattle.duration.specs.Loops.{isTangled}
 
 -- the Next of each counter's last For, after one line more: line n is its Next, where that is a For
 abbrev pub opened : Line → ℕ → List ℕ → List ℕ

@@ -14,9 +14,6 @@ pub enum Answer {
     Refused(u8),
 }
 
-// The bytes of a program.
-pub const PROGRAM: usize = 1600;
-
 // The most ticks that are told.
 pub const MOST_TICKS: u64 = 9999999999;
 
@@ -24,10 +21,10 @@ pub const MOST_TICKS: u64 = 9999999999;
 pub fn report(p: &[u8]) -> Answer
     ensures answer { λ r. ⌜ r ≡ answerOf (report (now (p .entry))) ⌝ }
 {
-    if p.len() != PROGRAM {
+    if p.len() != lines::PROGRAM {
         return Answer::Refused(30);
     }
-    let end = nesting::end_line(p);
+    let end = lines::end_line(p);
     if end == 200 {
         return Answer::Refused(42);
     }

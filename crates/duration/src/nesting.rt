@@ -1,10 +1,10 @@
-// Where a program ends, and whether its loops before that are tangled. Definitions: specs/Loops.antt, and specs/Walk.antt for the walk.
+// Whether the loops of a program before its end are tangled. Definitions: specs/Loops.antt, and specs/Walk.antt for the walk.
 ghost use mathlib.Core.Path.{_≡_};
 ghost use Prim.Native.Nat.{_≤_, _<_};
 ghost use lib.ListN.{length};
 ghost use Rattle.lines.specs.declared.Line.the-variants.{For, Next};
 ghost use Rattle.lines.specs.Program.{lineAt, nextAfter};
-ghost use Rattle.duration.specs.Loops.{isEnd, endLine, nextOf};
+ghost use Rattle.lines.specs.Loops.{nextOf};
 ghost use Rattle.duration.specs.Walk.{isAcross, isAcrossOne, walkedLine, Walked};
 use lines::Line;
 
@@ -13,35 +13,6 @@ pub struct Walk {
     pub nexts: [u8; 4],
     pub fault: bool,
 }
-
-// ---- the end
-
-// A State with time 0.
-fn is_end(l: Line) -> bool
-    ensures test { λ r. ⌜ r ≡ isEnd l ⌝ }
-{
-    let Line::State { outputs: _, time } = l else {
-        return false;
-    };
-    time == 0
-}
-
-// The first line that is a State with time 0; 200 where there is none.
-pub fn end_line(p: &[u8]) -> u8
-    requires { ⌜ length (now p) ≡ 1600 ⌝ }
-    ensures line { λ r. ⌜ (r ≡ endLine (now (p .entry))) × (r ≤ 200) ⌝ }
-{
-    let mut i: u8 = 0;
-    while i < 200 {
-        if is_end(lines::line_at(p, i as usize)) {
-            return i;
-        }
-        i += 1;
-    }
-    200
-}
-
-// ---- the loops
 
 // Line i is inside a loop with Next o, and that Next is not behind line n.
 fn is_across(i: u8, n: u8, o: u8) -> bool

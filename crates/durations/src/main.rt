@@ -35,7 +35,7 @@ fn told(output: Output, block: &mut [u8], total: u64, program: &[u8]) -> Progres
     let answer = duration::report(program);
     let output = put_answer(output, block, answer);
     let total = duration::total_with(total, answer);
-    let whole = program.len() == duration::PROGRAM;
+    let whole = program.len() == lines::PROGRAM;
     Progress {
         output,
         total,
@@ -56,7 +56,7 @@ fn stopped(output: Output, total: u64, failed: bool) -> Progress {
 
 // What is gathered goes out, where somebody may wait for it; then the next program is read, as far as there is one.
 fn turn(output: Output, block: &mut [u8], total: u64, awaited: bool) -> Progress {
-    let mut program = [0u8; duration::PROGRAM];
+    let mut program = [0u8; lines::PROGRAM];
     let output = if awaited {
         output.flushed(block)
     } else {

@@ -220,3 +220,17 @@ pub rule-holds : (t : Bool) (e : ℕ) {x : Unit {0}} → (t orElse e) ≡ passed
 unfolding _orElse_
 rule-holds true e p = refl
 rule-holds false e p = absurd (not-passed p)
+
+-- a rule that does not hold refuses with its number, and only then
+pub rule-passes : {t : Bool} (e : ℕ) → t ≡ true → (t orElse e) ≡ passed tt
+unfolding _orElse_
+rule-passes e is = rw is
+
+pub rule-refuses : {t : Bool} (e : ℕ) → t ≡ false → (t orElse e) ≡ refused e
+unfolding _orElse_
+rule-refuses e is = rw is
+
+pub rule-fails : (t : Bool) (e : ℕ) {r : ℕ} → (t orElse e) ≡ refused r → (t ≡ false) × (r ≡ e)
+unfolding _orElse_
+rule-fails true e p = absurd (not-passed (sym p))
+rule-fails false e p = (refl, sym (refused-same p))

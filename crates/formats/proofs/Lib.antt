@@ -10,4 +10,5 @@ pub mod Places
 pub mod Writing
 pub mod DigitsWritten
 pub mod Order
+pub mod Refusals
 pub mod Readers

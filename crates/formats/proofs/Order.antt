@@ -2,11 +2,19 @@
 -- Assumes nothing.
 use mathlib.Core.Path.{_≡_, refl, subst}
 use mathlib.Core.Bool.{Bool, true, false}
-use Prim.Native.Nat.{ℕ, suc}
+use Prim.Native.Nat.{ℕ, suc, _<_}
 use native.Mathlib.Omega.{arith}
 use lib.Dec.{eqb, ltb}
 use borrow.Author.Tests.{eqb-true, eqb-false, ltb-true, ltb-false}
 use Rattle.formats.specs.Order.{NoneBefore, First}
+
+-- a place, or an earlier one
+pub last-or-before : {X : Type 0} (k n : ℕ) → k < suc n → (k ≡ n → X) → (k < n → X) → X
+last-or-before {X} k n lt f g = go (eqb k n) refl
+  where
+    go : (t : Bool) → eqb k n ≡ t → X
+    go true e = f (eqb-true k n e)
+    go false e = let ne = eqb-false k n e in g (omega arith)
 
 module _ {A : Type 0} (place : A → ℕ) (Says : A → Type 0) where
   -- before the first place there is none
@@ -15,11 +23,8 @@ module _ {A : Type 0} (place : A → ℕ) (Says : A → Type 0) where
 
   -- the sentence at the next place does not hold either; one place has one sentence
   pub none-more : ((a b : A) → place a ≡ place b → a ≡ b) → (a : A) → NoneBefore place Says (place a) → (Says a → ⊥) → NoneBefore place Says (suc (place a))
-  none-more one a none not-a b lt s = go (eqb (place b) (place a)) refl
-    where
-      go : (t : Bool) → eqb (place b) (place a) ≡ t → ⊥
-      go true e = not-a (subst Says (one b a (eqb-true (place b) (place a) e)) s)
-      go false e = let ne = eqb-false (place b) (place a) e in none b (omega arith) s
+  none-more one a none not-a b lt s =
+      last-or-before (place b) (place a) lt (λ same. not-a (subst Says (one b a same) s)) (λ before. none b before s)
 
   -- Two that are the first have one place.
   pub one-first : (a b : A) → First place Says a → First place Says b → place a ≡ place b

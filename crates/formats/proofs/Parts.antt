@@ -1,15 +1,21 @@
 -- Laws of parts of a list: one that is written over, one that is lent and comes back, one that is copied, and the rest of it.
 -- Assumes nothing.
-use mathlib.Core.Path.{_≡_, sym, ap, _∙_}
-use Prim.Native.Nat.{ℕ, _+_, _-_, _≤_, _<_}
+use mathlib.Core.Path.{_≡_, refl, sym, ap, _∙_}
+use Prim.Native.Nat.{ℕ, zero, suc, _+_, _-_, _≤_, _<_}
 use native.Mathlib.Nat.{zero-add}
 use native.Mathlib.Numerals.{add-one}
 use native.Mathlib.Omega.{arith}
 use mathlib.Core.List.{List, [], _++_, append-nil}
-use lib.ListN.{length, take, drop, set, getD, length-take, length-drop}
+use lib.ListN.{length, take, drop, set, getD, replicate, length-take, length-drop}
 use lib.Seq.{sets, sets-eq, take-all, drop-length, drop-drop, paste-suc}
 use Rattle.formats.specs.Bytes.{part}
 use borrow.Rule.Slice.PartMut.{putMid}
+
+-- an element of a list of equal ones, or behind its end
+pub replicated : {A : Type 0} (n : ℕ) (x : A) (i : ℕ) → getD (replicate n x) i x ≡ x
+replicated zero x i = refl
+replicated (suc n) x zero = refl
+replicated (suc n) x (suc i) = replicated n x i
 
 -- a list that is written over whole, from its first element to its last, is what was written
 pub written-over : (vs l : List ℕ) → length l ≡ length vs → sets l 0 vs ≡ vs

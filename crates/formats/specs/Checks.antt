@@ -33,6 +33,16 @@ unfoldable pub _orElse_ : Bool → ℕ → Res (Unit {0})
 true orElse e = passed tt
 false orElse e = refused e
 
+-- Checks in their order, and what stands behind them: the first that refuses is told. A rule with its number is a check of `orElse`.
+unfoldable pub inOrder : {A : Type 0} → List (Res (Unit {0})) → Res A → Res A
+inOrder [] r = r
+inOrder (c ∷ cs) r = c >> inOrder cs r
+
+-- the number that a check refuses with; 0 where it passes
+abbrev pub refusalOf : {A : Type 0} → Res A → ℕ
+refusalOf (refused e) = e
+refusalOf (passed a) = 0
+
 -- what holds of the value, where the check passes
 abbrev pub Ok : {A : Type 0} → (A → Type 0) → Res A → Type 0
 Ok P (refused e) = Unit

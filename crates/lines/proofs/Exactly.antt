@@ -19,7 +19,7 @@ use Rattle.formats.proofs.Digits.{isBelow}
 use Rattle.formats.proofs.Bytes.{field-back}
 use Rattle.lines.specs.declared.Line.{Line}
 use Rattle.lines.specs.declared.Line.the-variants.{State, For, Next, Bad}
-use Rattle.lines.specs.Line.{isCounter, isState, isFor, isNext, isBad, readLine, bytesOf, Ranges, Fits}
+use Rattle.lines.specs.Line.{isCounter, saysState, saysFor, saysNext, isBad, readLine, bytesOf, Ranges, Fits}
 use Rattle.lines.proofs.Lines.{read-ranged, bytes-back, is-bad, Sets, Word, read-word}
 use Rattle.lines.proofs.Places.{eight}
 
@@ -46,7 +46,7 @@ module _ (bs : List ℕ) (are : all (isBelow 256) bs ≡ true) (long : 8 ≤ len
   eight-as : {a b : ℕ} {r : List ℕ} → first ≡ a → second ≡ b → part 2 6 bs ≡ r → take 8 bs ≡ a ∷ b ∷ r
   eight-as e f g = first-two ∙ rw (e, f, g)
 
-  state-exact : isState bs ≡ true → take 8 bs ≡ bytesOf (State (field 2 4 bs) (field 6 2 bs))
+  state-exact : saysState bs ≡ true → take 8 bs ≡ bytesOf (State (field 2 4 bs) (field 6 2 bs))
   unfolding bytesOf
   state-exact e =
       let p = both-true (eqb first 0x53 && eqb second 0) (leb (field 6 2 bs) 9999) e in
@@ -54,7 +54,7 @@ module _ (bs : List ℕ) (are : all (isBelow 256) bs ≡ true) (long : 8 ≤ len
       eight-as (eqb-true first 0x53 (q .0)) (eqb-true second 0 (q .1))
       (six-as 4 2 refl ∙ ap₂ (λ x y. x ++ y) (these 2 4 _ (omega arith) refl) (these 6 2 _ (omega arith) refl))
 
-  for-exact : isFor bs ≡ true → take 8 bs ≡ bytesOf (For second (field 2 2 bs))
+  for-exact : saysFor bs ≡ true → take 8 bs ≡ bytesOf (For second (field 2 2 bs))
   unfolding bytesOf digits
   for-exact e =
       let p = both-true (eqb first 0x46 && isCounter second && leb (field 2 2 bs) 9999) (eqb (field 4 4 bs) 0) e in
@@ -62,7 +62,7 @@ module _ (bs : List ℕ) (are : all (isBelow 256) bs ≡ true) (long : 8 ≤ len
       eight-as (eqb-true first 0x46 (both-true (eqb first 0x46) (isCounter second) (q .0) .0)) refl
       (six-as 2 4 refl ∙ ap₂ (λ x y. x ++ y) (these 2 2 _ (omega arith) refl) (these 4 4 0 (omega arith) (eqb-true (field 4 4 bs) 0 (p .1))))
 
-  next-exact : isNext bs ≡ true → take 8 bs ≡ bytesOf (Next second)
+  next-exact : saysNext bs ≡ true → take 8 bs ≡ bytesOf (Next second)
   unfolding bytesOf digits
   next-exact e =
       let p = both-true (eqb first 0x4E && isCounter second) (eqb (field 2 6 bs) 0) e in
@@ -74,9 +74,9 @@ module _ (bs : List ℕ) (are : all (isBelow 256) bs ≡ true) (long : 8 ≤ len
   unfolding readLine
   read-exact =
       let P : Line → Type 0 = λ l. isBad l ≡ false → take 8 bs ≡ bytesOf l in
-      if-case P (isState bs) (λ e _. state-exact e) λ _.
-      if-case P (isFor bs) (λ e _. for-exact e) λ _.
-      if-case P (isNext bs) (λ e _. next-exact e) (λ _ good. absurd (true≢false good))
+      if-case P (saysState bs) (λ e _. state-exact e) λ _.
+      if-case P (saysFor bs) (λ e _. for-exact e) λ _.
+      if-case P (saysNext bs) (λ e _. next-exact e) (λ _ good. absurd (true≢false good))
 
   -- and its values fit.
   pub read-fits : isBad (readLine bs) ≡ false → Fits (readLine bs)

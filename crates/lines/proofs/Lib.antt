@@ -5,3 +5,6 @@ pub mod Exactly
 pub mod Writing
 pub mod OtherKinds
 pub mod Search
+pub mod Searches
+pub mod FirstEnd
+pub mod Pairs

@@ -16,7 +16,7 @@ use Rattle.formats.proofs.Digits.{isBelow, digits-below}
 use Rattle.formats.proofs.Bytes.{number-bytes, field-below}
 use Rattle.lines.specs.declared.Line.{Line}
 use Rattle.lines.specs.declared.Line.the-variants.{State, For, Next, Bad}
-use Rattle.lines.specs.Line.{isCounter, isState, isFor, isNext, isBad, setBy, readLine, bytesOf, OneToFour, Ranges, Fits}
+use Rattle.lines.specs.Line.{isCounter, saysState, saysFor, saysNext, isBad, setBy, readLine, bytesOf, OneToFour, Ranges, Fits}
 
 -- ---- the ranges
 
@@ -39,14 +39,14 @@ unfolding readLine
 read-ranged bs =
     let first : ℕ = getD bs 0 0 in
     let second : ℕ = getD bs 1 0 in
-    if-case Ranged (isState bs)
+    if-case Ranged (saysState bs)
     (λ e. record { range = leb-true (field 6 2 bs) 9999 (both-true (eqb first 0x53 && eqb second 0) (leb (field 6 2 bs) 9999) e .1) }) λ _.
-    if-case Ranged (isFor bs)
+    if-case Ranged (saysFor bs)
     (λ e.
     let p = both-true (eqb first 0x46 && isCounter second && leb (field 2 2 bs) 9999) _ e in
     let q = both-true (eqb first 0x46 && isCounter second) (leb (field 2 2 bs) 9999) (p .0) in
     for-ranged (both-true (eqb first 0x46) (isCounter second) (q .0) .1) (leb-true (field 2 2 bs) 9999 (q .1))) λ _.
-    if-case Ranged (isNext bs)
+    if-case Ranged (saysNext bs)
     (λ e.
     let p = both-true (eqb first 0x4E && isCounter second) _ e in
     record { range = counter-is second (both-true (eqb first 0x4E) (isCounter second) (p .0) .1) }) λ _.
@@ -141,6 +141,6 @@ fits-word Bad f = tt
 pub read-word : (bs : List ℕ) → all (isBelow 256) bs ≡ true → Sets Word (readLine bs)
 unfolding readLine
 read-word bs are =
-    if-case (Sets Word) (isState bs) (λ _. field-below 2 4 bs are) λ _.
-    if-case (Sets Word) (isFor bs) (λ _. tt) λ _.
-    if-case (Sets Word) (isNext bs) (λ _. tt) (λ _. tt)
+    if-case (Sets Word) (saysState bs) (λ _. field-below 2 4 bs are) λ _.
+    if-case (Sets Word) (saysFor bs) (λ _. tt) λ _.
+    if-case (Sets Word) (saysNext bs) (λ _. tt) (λ _. tt)

@@ -9,7 +9,7 @@ use denote.Enum.Declared.{tagOf}
 use Rattle.lines.proofs.Line as L
 use Rattle.lines.specs.declared.Line.{Line}
 use Rattle.lines.specs.declared.Line.the-variants.{State, For, Next, Bad}
-use Rattle.lines.specs.Line.{isBad}
+use Rattle.lines.specs.Line.{isEnd, isBad}
 use Rattle.lines.specs.Program.{isNextOf}
 
 -- a line that is no Next
@@ -25,3 +25,10 @@ not-bad (State o t) h = refl
 not-bad (For n m) h = refl
 not-bad (Next n) h = refl
 not-bad Bad h = absurd (miss (0 ∷ 1 ∷ 2 ∷ []) 3 tt h)
+
+-- a line that is no State
+pub no-end : (l : Line) → OneOf (1 ∷ 2 ∷ 3 ∷ []) (tagOf L.the-type l) → false ≡ isEnd l
+no-end (State o t) h = absurd (miss (1 ∷ 2 ∷ 3 ∷ []) 0 tt h)
+no-end (For c x) h = refl
+no-end (Next c) h = refl
+no-end Bad h = refl

@@ -13,7 +13,7 @@ use native.Mathlib.Omega.{arith}
 use Rattle.formats.proofs.Checks.{if-case, both-true}
 use Rattle.lines.specs.declared.Line.{Line}
 use Rattle.lines.specs.declared.Line.the-variants.{State, For, Next, Bad}
-use Rattle.lines.specs.Line.{isState, isFor, isNext, readLine}
+use Rattle.lines.specs.Line.{saysState, saysFor, saysNext, readLine}
 use Rattle.lines.specs.Program.{lineAt, isNextOf, firstNext, nextAfter, FirstFrom, NoneFrom}
 
 -- A line whose first byte is not 4E, or whose second is not c, is no Next of counter c.
@@ -24,9 +24,9 @@ module _ (c : ℕ) (p : List ℕ) (k : ℕ) where
   abbrev No : Line → Type 0
   No l = isNextOf c l ≡ false
 
-  no-next-but : (isNext bs ≡ true → No (Next (getD bs 1 0))) → No (lineAt p k)
+  no-next-but : (saysNext bs ≡ true → No (Next (getD bs 1 0))) → No (lineAt p k)
   unfolding lineAt readLine
-  no-next-but h = if-case No (isState bs) (λ e. refl) (λ e. if-case No (isFor bs) (λ e. refl) (λ e. if-case No (isNext bs) h (λ e. refl)))
+  no-next-but h = if-case No (saysState bs) (λ e. refl) (λ e. if-case No (saysFor bs) (λ e. refl) (λ e. if-case No (saysNext bs) h (λ e. refl)))
 
   first : getD p (8 * k) 0 ≡ getD bs 0 0
   first = let e : 8 * k ≡ 8 * k + 0 = omega arith in ap (λ n. getD p n 0) e ∙ sym (getD-drop (8 * k) p 0 0)

@@ -1,2 +1,4 @@
 pub mod Line
 pub mod Program
+pub mod Searches
+pub mod Loops

@@ -19,30 +19,54 @@ abbrev pub isCounter : ℕ → Bool
 isCounter c = leb 1 c && leb c 4
 
 -- "State: 53 00 X4 X3 X2 X1 and the time, high byte first."
-abbrev pub isState : List ℕ → Bool
-isState bs = eqb (getD bs 0 0) 0x53 && eqb (getD bs 1 0) 0 && leb (field 6 2 bs) 9999
+abbrev pub saysState : List ℕ → Bool
+saysState bs = eqb (getD bs 0 0) 0x53 && eqb (getD bs 1 0) 0 && leb (field 6 2 bs) 9999
 
 -- "For: 46, counter, count high byte first, four zeros."
-abbrev pub isFor : List ℕ → Bool
-isFor bs = eqb (getD bs 0 0) 0x46 && isCounter (getD bs 1 0) && leb (field 2 2 bs) 9999 && eqb (field 4 4 bs) 0
+abbrev pub saysFor : List ℕ → Bool
+saysFor bs = eqb (getD bs 0 0) 0x46 && isCounter (getD bs 1 0) && leb (field 2 2 bs) 9999 && eqb (field 4 4 bs) 0
 
 -- "Next: 4E, counter, six zeros."
-abbrev pub isNext : List ℕ → Bool
-isNext bs = eqb (getD bs 0 0) 0x4E && isCounter (getD bs 1 0) && eqb (field 2 6 bs) 0
+abbrev pub saysNext : List ℕ → Bool
+saysNext bs = eqb (getD bs 0 0) 0x4E && isCounter (getD bs 1 0) && eqb (field 2 6 bs) 0
 
 -- The line that the first eight bytes say: Bad, where they are none of these.
 unfoldable pub readLine : List ℕ → Line
 readLine bs =
-    if isState bs then State (field 2 4 bs) (field 6 2 bs)
-    else if isFor bs then For (getD bs 1 0) (field 2 2 bs)
-    else if isNext bs then Next (getD bs 1 0)
+    if saysState bs then State (field 2 4 bs) (field 6 2 bs)
+    else if saysFor bs then For (getD bs 1 0) (field 2 2 bs)
+    else if saysNext bs then Next (getD bs 1 0)
     else Bad
+
+-- ---- which line it is
+
+-- the end mark: "State with time 0"
+abbrev pub isEnd : Line → Bool
+isEnd (State outputs time) = eqb time 0
+isEnd (For counter count) = false
+isEnd (Next counter) = false
+isEnd Bad = false
+
+abbrev pub isNext : Line → Bool
+isNext (State outputs time) = false
+isNext (For counter count) = false
+isNext (Next counter) = true
+isNext Bad = false
 
 abbrev pub isBad : Line → Bool
 isBad (State outputs time) = false
 isBad (For counter count) = false
 isBad (Next counter) = false
 isBad Bad = true
+
+-- the counter of a For, 0 of any other line
+abbrev pub forCounter : Line → ℕ
+forCounter (State outputs time) = 0
+forCounter (For counter count) = counter
+forCounter (Next counter) = 0
+forCounter Bad = 0
+
+-- ---- what it does, and its bytes
 
 -- the outputs after a line that is executed, where o stood before: a State sets its own, any other leaves them
 abbrev pub setBy : Line → ℕ → ℕ

@@ -4,12 +4,19 @@ use mathlib.Core.Path.{_≡_}
 use mathlib.Core.Logic.{_≢_}
 use mathlib.Core.Bool.{Bool, true, false}
 use mathlib.Core.List.{List}
-use lib.ListN.{drop}
+use lib.ListN.{length, drop}
 use lib.Dec.{eqb}
 use Rattle.formats.specs.Bytes.{placed}
 use Rattle.lines.specs.declared.Line.{Line}
 use Rattle.lines.specs.declared.Line.the-variants.{State, For, Next, Bad}
 use Rattle.lines.specs.Line.{readLine, bytesOf}
+
+-- 01, 'Variables': 200 lines of 8 bytes
+abbrev pub programSize : ℕ
+programSize = 1600
+
+abbrev pub isProgram : List ℕ → Bool
+isProgram area = eqb (length area) programSize
 
 -- line k
 unfoldable pub lineAt : List ℕ → ℕ → Line

@@ -7,8 +7,9 @@ ghost use lib.ListN.{length};
 ghost use lib.Dec.{eqb, leb};
 ghost use Rattle.formats.specs.Checks.{if_then_else_};
 ghost use Rattle.lines.specs.declared.Line.the-variants.{State, For, Next, Bad};
-ghost use Rattle.lines.specs.Line.{endMark, isCounter, isBad, readLine, bytesOf};
+ghost use Rattle.lines.specs.Line.{endMark, isCounter, isEnd, isBad, readLine, bytesOf};
 ghost use Rattle.lines.specs.Program.{lineAt, putLine, isNextOf, nextAfter};
+ghost use Rattle.lines.specs.Loops.{endLine};
 
 pub enum Line {
     State { outputs: u32, time: u16 },
@@ -17,6 +18,9 @@ pub enum Line {
     // eight bytes that are none of these
     Bad,
 }
+
+// The bytes of a program.
+pub const PROGRAM: usize = 1600;
 
 // ---- eight bytes read as a line
 
@@ -124,6 +128,16 @@ pub fn is_bad(l: Line) -> bool
     false
 }
 
+// Whether a line is a State with time 0.
+fn is_end(l: Line) -> bool
+    ensures test { λ r. ⌜ r ≡ isEnd l ⌝ }
+{
+    let Line::State { outputs: _, time } = l else {
+        return false;
+    };
+    time == 0
+}
+
 // ---- a line written as eight bytes
 
 // The end mark with outputs 0.
@@ -220,10 +234,25 @@ pub fn next_after(p: &[u8], c: u8, k: u8) -> u8
     200
 }
 
+// The first line that is a State with time 0; 200 where there is none.
+pub fn end_line(p: &[u8]) -> u8
+    requires { ⌜ length (now p) ≡ 1600 ⌝ }
+    ensures line { λ r. ⌜ (r ≡ endLine (now (p .entry))) × (r ≤ 200) ⌝ }
+{
+    let mut i: u8 = 0;
+    while i < 200 {
+        if is_end(line_at(p, i as usize)) {
+            return i;
+        }
+        i += 1;
+    }
+    200
+}
+
 // The 200 lines are copied, byte by byte, whatever they are.
 pub fn copy_program(from: &[u8], to: &mut [u8])
     requires { ⌜ (length (now from) ≡ 1600) × (length (now to) ≡ 1600) ⌝ }
     ensures program { λ _. ⌜ now (to .exit) ≡ now (from .entry) ⌝ }
 {
-    formats::copy(from, to, 1600);
+    formats::copy(from, to, PROGRAM);
 }

@@ -3,7 +3,7 @@
 use Prim.Native.Nat.{ℕ, zero, suc, _+_, _≤_}
 use native.Mathlib.Omega.{arith}
 use native.Mathlib.Nat.{le-trans}
-use mathlib.Core.Path.{_≡_, refl, sym, _∙_}
+use mathlib.Core.Path.{_≡_, refl, sym, subst, _∙_}
 use mathlib.Core.Logic.{_≢_}
 use mathlib.Core.Bool.{true, false, not, true≢false}
 use mathlib.Core.List.{List}
@@ -19,6 +19,8 @@ use Rattle.running.specs.declared.Ran.{Ran}
 use Rattle.running.specs.Running.{allFree, stopped, holds, ends, onward, runLine, isForOrNext}
 use Rattle.running.specs.Running.{counted, stops, rests, isHeld, follow, step, runDue, most, start, tick}
 use Rattle.running.specs.Ended.{Ended}
+use Rattle.running.specs.Moments.{past, over}
+use Rattle.running.proofs.Causes.{Way, isHeld as held, hasEnded as ended, goesOn as goes, step-way, cause-says}
 use Rattle.running.proofs.Ways.{onward-ways, state-ways, for-ways, next-ways, bad-way}
 
 -- ---- at most 400 lines
@@ -102,6 +104,10 @@ step-tell : (p : List ℕ) (r : Run) → r .on ≡ true → Tells (step p r)
 unfolding step
 step-tell p r on = line-tell p (lineAt p (r .line)) r on
 
+-- a line that ends nothing leaves the program running
+pub step-runs : (p : List ℕ) (r : Run) → r .on ≡ true → step p r .run .on ≡ true
+step-runs p r on = step-tell p r on .running
+
 stops-told : (e n : ℕ) (r : Run) → e ≢ 0 → Told (stops e n r)
 unfolding stopped
 stops-told e n r ne = hasEnded refl ne
@@ -138,10 +144,6 @@ tick-told p r on =
 
 -- ---- what an end says of the line at which it came
 
--- neither of the two
-other-end : (p : List ℕ) (e : ℕ) (r : Run) → e ≤ 14 → e ≢ 11 → e ≢ 14 → Ended p e r
-other-end p e r le a b = record { known = le; well = λ z. absurd (a z); badly = λ z. absurd (b z) }
-
 -- of one line: if it ends the program, so it ended
 abbrev EndsSo : List ℕ → Step → Type 0
 EndsSo p s = (e : ℕ) → s .how ≡ Ends e → Ended p e (s .run)
@@ -149,36 +151,24 @@ EndsSo p s = (e : ℕ) → s .how ≡ Ends e → Ended p e (s .run)
 ends-so : (p : List ℕ) (e : ℕ) (r : Run) → Ended p e r → EndsSo p (ends e r)
 ends-so p e r h f is = let same : e ≡ f = cc in rw same at h
 
+way-ends : (p : List ℕ) (r : Run) (s : Step) → Way p r s → EndsSo p s
+way-ends p r s (held _ _ is) = subst (EndsSo p) (sym is) (λ e h. absurd (not-ends h refl))
+way-ends p r s (ended e u why is) = subst (EndsSo p) (sym is) (ends-so p e u (cause-says p r why))
+way-ends p r s (goes loop how) = λ e h. absurd (not-ends′ h how)
+
+step-ends : (p : List ℕ) (r : Run) → EndsSo p (step p r)
+step-ends p r = way-ends p r (step p r) (step-way p r)
+
 onward-ends : (p : List ℕ) (r : Run) → EndsSo p (onward r)
 onward-ends p r =
-    onward-ways (EndsSo p) r (λ _ e is. absurd (not-ends′ is refl)) (λ _. ends-so p 9 r (other-end p 9 r (omega arith) (λ z. omega arith) (λ z. omega arith)))
-
-module _ (p : List ℕ) (r : Run) where
-  line-ends : (l : Line) → lineAt p (r .line) ≡ l → EndsSo p (runLine p l r)
-  line-ends (State o t) is =
-      state-ways (EndsSo p) p r o t (λ _ e h. absurd (not-ends h refl))
-      (λ none. ends-so p 11 _ (record { known = omega arith; well = λ _. rw none at is; badly = λ z. absurd (omega arith) }))
-  line-ends (For c n) is =
-      for-ways (EndsSo p) p r c n
-      (λ _. ends-so p 6 r (other-end p 6 r (omega arith) (λ z. omega arith) (λ z. omega arith)))
-      (λ _ _. ends-so p 7 r (other-end p 7 r (omega arith) (λ z. omega arith) (λ z. omega arith)))
-      (λ _ _ _. onward-ends p _)
-      (λ _ _ _. onward-ends p _)
-  line-ends (Next c) is =
-      next-ways (EndsSo p) p r c (λ _. ends-so p 8 r (other-end p 8 r (omega arith) (λ z. omega arith) (λ z. omega arith))) (λ _ e h. absurd (not-ends′ h refl))
-      (λ _. onward-ends p _)
-  line-ends Bad is = bad-way (EndsSo p) p r (ends-so p 14 r (record { known = omega arith; well = λ z. absurd (omega arith); badly = λ _. is }))
-
-  step-ends : EndsSo p (step p r)
-  unfolding step
-  step-ends = line-ends (lineAt p (r .line)) refl
+    onward-ways (EndsSo p) r (λ _ e is. absurd (not-ends′ is refl)) (λ le. ends-so p 9 r (cause-says p r (past refl le)))
 
 -- a call
 abbrev pub EndsAsItSays : List ℕ → Ran → Type 0
 EndsAsItSays p x = Ended p (x .event) (x .run)
 
 no-end : (p : List ℕ) (n : ℕ) (r : Run) → EndsAsItSays p (rests n r)
-no-end p n r = other-end p 0 r (omega arith) (λ z. omega arith) (λ z. omega arith)
+no-end p n r = record { known = omega arith; well = λ z. absurd (omega arith); badly = λ z. absurd (omega arith) }
 
 stopped-ends : (p : List ℕ) (e n : ℕ) (r : Run) → Ended p e r → EndsAsItSays p (stops e n r)
 unfolding stopped
@@ -194,7 +184,7 @@ due-ends-so : (p : List ℕ) (left n : ℕ) (r : Run) → EndsAsItSays p (runDue
 unfolding runDue
 due-ends-so p zero n r =
     if-case (EndsAsItSays p) (isForOrNext (lineAt p (r .line)))
-    (λ _. stopped-ends p 13 n r (other-end p 13 r (omega arith) (λ z. omega arith) (λ z. omega arith)))
+    (λ loop. stopped-ends p 13 n r (cause-says p r (over refl loop refl)))
     (λ _. follow-ends p (step p r .how) n (step p r .run) _ (step-ends p r) (λ s. no-end p n s))
 due-ends-so p (suc left) n r = follow-ends p (step p r .how) _ (step p r .run) _ (step-ends p r) (λ s. due-ends-so p left _ s)
 

@@ -4,6 +4,12 @@ pub mod Parts
 pub mod Steps
 pub mod Invariant
 pub mod Turns
+pub mod Causes
 pub mod Ending
 pub mod Outputs
+pub mod Reaching
+pub mod Arriving
+pub mod Looping
+pub mod Moments
+pub mod Coming
 pub mod Examples

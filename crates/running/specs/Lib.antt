@@ -2,3 +2,5 @@ pub mod Running
 pub mod Turn
 pub mod Invariant
 pub mod Ended
+pub mod Ticking
+pub mod Moments

@@ -336,8 +336,8 @@ fn turns(
     let mut held = b;
     let mut output = Output::new();
     let mut sizes = Sizes {
-        program: 1600,
-        saved: 1600,
+        program: lines::PROGRAM,
+        saved: lines::PROGRAM,
         log: log::LEAST_AREA,
         out: 16,
     };

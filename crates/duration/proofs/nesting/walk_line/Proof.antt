@@ -1,6 +1,6 @@
 -- `duration::nesting::walk_line` meets its contract: by the kind of line.
 -- Assumes nothing.
-use Rattle.duration.proofs.Pairs.{counter-ranged, next-ranged}
+use Rattle.lines.proofs.Pairs.{counter-ranged, next-ranged}
 use Rattle.duration.proofs.OtherKinds.{plain-walked, for-walked, next-walked}
 use mathlib.Core.Path.{sym, _∙_}
 use borrow.Author.Needs.{needs}

@@ -1,10 +1,10 @@
--- `duration::nesting::end_line` meets its contract: the loop keeps the search from line i on equal to the search asked for.
+-- `lines::end_line` meets its contract: the loop keeps the search from line i on equal to the search asked for.
 -- Assumes nothing.
 use Prim.Native.Nat.{_-_, _≤_}
 use borrow.Author.Needs.{needs}
-use Rattle.duration.proofs.FirstEnd.{Searching, end-begins, end-here, end-on, end-none}
-use Rattle.duration.proofs.nesting.end_line.Statement.{statement}
-use Rattle.duration.proofs.nesting.end_line.Tie as tie
+use Rattle.lines.proofs.FirstEnd.{Searching, end-begins, end-here, end-on, end-none}
+use Rattle.lines.proofs.end_line.Statement.{statement}
+use Rattle.lines.proofs.end_line.Tie as tie
 
 abbrev Inv-loop : tie.InvT-loop
 Inv-loop p i₀ i = (Searching p i) × (i ≤ 200)

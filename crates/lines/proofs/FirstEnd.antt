@@ -6,14 +6,15 @@ use mathlib.Core.Path.{_≡_, refl, sym, ap, _∙_}
 use mathlib.Core.Logic.{_≢_}
 use mathlib.Core.Bool.{Bool, true, false, true≢false, false≢true}
 use mathlib.Core.List.{List}
-use borrow.Author.Tests.{eqb-true}
+use lib.Dec.{ltb}
+use borrow.Author.Tests.{eqb-true, ltb-true, ltb-false}
 use Rattle.lines.specs.declared.Line.{Line}
 use Rattle.lines.specs.declared.Line.the-variants.{State, For, Next, Bad}
 use Rattle.lines.specs.Program.{lineAt}
-use Rattle.duration.specs.Lines.{firstOf}
-use Rattle.duration.specs.Loops.{isEnd, endLine}
-use Rattle.duration.specs.Reasons.{NoEnd, End}
-use Rattle.duration.proofs.Lines.{First, first-is, found-here, found-on, found-none}
+use Rattle.lines.specs.Line.{isEnd}
+use Rattle.lines.specs.Searches.{firstOf}
+use Rattle.lines.specs.Loops.{endLine, NoEnd, End}
+use Rattle.lines.proofs.Searches.{First, first-is, found-here, found-on, found-none}
 
 end-mark : {X : Type 0} (l : Line) → isEnd l ≡ true → ((o : ℕ) → l ≡ State o 0 → X) → X
 end-mark (State o t) e h = let z : t ≡ 0 = eqb-true t 0 e in h o (ap (State o) z)
@@ -41,6 +42,25 @@ module _ (p : List ℕ) where
   -- "the first such line"
   pub end-is : endLine p < 200 → End p (endLine p)
   end-is lt = end-mark (lineAt p (endLine p)) (first .passes lt) λ o mark. record { inProgram = lt; outputs = o; mark = mark; first = none-before }
+
+  -- It is one line,
+  pub end-alone : (k : ℕ) → End p k → k ≡ endLine p
+  end-alone k q = go (ltb k (endLine p)) refl (ltb (endLine p) k) refl
+    where
+      go : (t : Bool) → ltb k (endLine p) ≡ t → (u : Bool) → ltb (endLine p) k ≡ u → k ≡ endLine p
+      go true a u b = absurd (none-before k (q .outputs) (ltb-true k (endLine p) a) (q .mark))
+      go false a true b =
+          let end = end-is (omega (arith, q .inProgram, ltb-true (endLine p) k b)) in
+          absurd (q .first (endLine p) (end .outputs) (ltb-true (endLine p) k b) (end .mark))
+      go false a false b = omega (arith, ltb-false k (endLine p) a, ltb-false (endLine p) k b)
+
+  -- and 200 where there is none.
+  pub end-beyond : NoEnd p 200 → 200 ≤ endLine p
+  end-beyond none = go (ltb (endLine p) 200) refl
+    where
+      go : (t : Bool) → ltb (endLine p) 200 ≡ t → 200 ≤ endLine p
+      go true t = let end = end-is (ltb-true (endLine p) 200 t) in absurd (none (endLine p) (end .outputs) (end .inProgram) (end .mark))
+      go false t = ltb-false (endLine p) 200 t
 
 -- ---- the search, line by line: up to line i none was found
 

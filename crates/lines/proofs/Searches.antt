@@ -1,29 +1,15 @@
--- Laws of tests over lines.
+-- Laws of tests over the lines of a program.
 -- Assumes nothing.
 use Prim.Native.Nat.{ℕ, zero, suc, _+_, _-_, _≤_, _<_}
 use native.Mathlib.Omega.{arith}
 use mathlib.Core.Path.{_≡_, refl, sym, ap, _∙_}
 use mathlib.Core.Logic.{_≢_}
 use mathlib.Core.Bool.{Bool, true, false, false≢true, true≢false}
-use lib.ListN.{getD, replicate}
 use lib.Dec.{eqb}
 use borrow.Author.Tests.{eqb-true, eqb-false}
 use Rattle.formats.proofs.Checks.{either-true, or-true, by-both, not-so}
-use Rattle.duration.specs.Lines.{someBefore, firstOf}
-
--- a line, or an earlier one
-pub last-or-before : {X : Type 0} (k n : ℕ) → k < suc n → (k ≡ n → X) → (k < n → X) → X
-last-or-before {X} k n lt f g = go (eqb k n) refl
-  where
-    go : (t : Bool) → eqb k n ≡ t → X
-    go true e = f (eqb-true k n e)
-    go false e = let ne : k ≢ n = eqb-false k n e in g (omega arith)
-
--- an element of a list of equal ones, or behind its end
-pub replicated : {A : Type 0} (n : ℕ) (x : A) (i : ℕ) → getD (replicate n x) i x ≡ x
-replicated zero x i = refl
-replicated (suc n) x zero = refl
-replicated (suc n) x (suc i) = replicated n x i
+use Rattle.formats.proofs.Order.{last-or-before}
+use Rattle.lines.specs.Searches.{someBefore, firstOf}
 
 -- ---- some line
 

@@ -1,9 +1,9 @@
--- `duration::nesting::is_end` meets its contract: by the kind of line.
+-- `lines::is_end` meets its contract: by the kind of line.
 -- Assumes nothing.
-use Rattle.duration.proofs.OtherKinds.{no-end}
+use Rattle.lines.proofs.OtherKinds.{no-end}
 use borrow.Author.Needs.{needs}
-use Rattle.duration.proofs.nesting.is_end.Statement.{statement}
-use Rattle.duration.proofs.nesting.is_end.Tie as tie
+use Rattle.lines.proofs.is_end.Statement.{statement}
+use Rattle.lines.proofs.is_end.Tie as tie
 
 enum-known-l : tie.Need-enum-known-l
 enum-known-l c = search needs

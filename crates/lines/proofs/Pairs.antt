@@ -6,16 +6,15 @@ use mathlib.Core.Path.{_≡_, refl, sym, ap, _∙_}
 use mathlib.Core.Logic.{_≢_}
 use mathlib.Core.Bool.{Bool, true, false, false≢true}
 use mathlib.Core.List.{List}
-use lib.Dec.{eqb, ltb}
-use borrow.Author.Tests.{eqb-true, eqb-false, ltb-true, lt-ltb}
-use Rattle.formats.proofs.Checks.{both-true}
+use lib.Dec.{eqb}
+use borrow.Author.Tests.{eqb-true, eqb-false}
 use Rattle.lines.specs.declared.Line.{Line}
 use Rattle.lines.specs.declared.Line.the-variants.{State, For, Next, Bad}
 use Rattle.lines.specs.Program.{lineAt, nextAfter, FirstFrom}
 use Rattle.lines.proofs.Places.{line-ranged}
 use Rattle.lines.proofs.Search.{next-first, first-next, none-next, next-none}
-use Rattle.running.specs.Running.{isForOrNext}
-use Rattle.duration.specs.Loops.{nextFor, nextOf, forCounter, counterAt, isInside, isNext}
+use Rattle.lines.specs.Line.{isNext, forCounter}
+use Rattle.lines.specs.Loops.{nextFor, nextOf, counterAt}
 
 -- ---- kinds of lines
 
@@ -23,7 +22,13 @@ pub for-no-next : {c x d : ℕ} → For c x ≡ Next d → ⊥
 for-no-next e = false≢true (ap isNext e)
 
 pub state-no-for : {o t c x : ℕ} → State o t ≡ For c x → ⊥
-state-no-for e = false≢true (ap isForOrNext e)
+state-no-for e = false≢true (ap isFor e)
+  where
+    isFor : Line → Bool
+    isFor (State o t) = false
+    isFor (For c x) = true
+    isFor (Next c) = false
+    isFor Bad = false
 
 pub same-next : {c d : ℕ} → Next c ≡ Next d → c ≡ d
 same-next e = ap named e
@@ -142,12 +147,3 @@ pub own-next : (p : List ℕ) (k j c : ℕ) → counterAt p k ≡ c → counterA
 own-next p k j c one other above up lt before =
     let at-k = next-by p k one above in
     next-by p j other above ∙ later-next p c k j up lt (omega arith) ∙ sym at-k
-
--- what "inside" says
-pub inside : (p : List ℕ) (k i : ℕ) → isInside p k i ≡ true → (k < i) × (i < nextOf p k)
-unfolding isInside
-inside p k i e = let b = both-true (ltb k i) (ltb i (nextOf p k)) e in (ltb-true k i (b .0), ltb-true i (nextOf p k) (b .1))
-
-pub is-inside : (p : List ℕ) (k i : ℕ) → k < i → i < nextOf p k → isInside p k i ≡ true
-unfolding isInside
-is-inside p k i a b = rw (lt-ltb k i a, lt-ltb i (nextOf p k) b)

@@ -5,17 +5,16 @@ use native.Mathlib.Omega.{arith}
 use mathlib.Core.Path.{_≡_, ap, _∙_}
 use mathlib.Core.Bool.{true}
 use mathlib.Core.List.{List}
-use lib.ListN.{length, getD}
+use lib.ListN.{getD}
 use Rattle.lines.specs.declared.Line.the-variants.{For}
 use Rattle.lines.specs.Program.{lineAt}
 use Rattle.running.specs.declared.Counter.{Counter}
 use Rattle.running.specs.declared.Run.{Run}
 use Rattle.running.specs.declared.Ran.{Ran}
 use Rattle.running.specs.declared.Step.{Step}
 use Rattle.running.specs.Running.{free, atLine, goesTo, follow, isForOrNext, step, runDue}
 use Rattle.running.proofs.Steps.{loop-counts}
-use Rattle.duration.specs.Ticks.{runTicks}
-use Rattle.duration.proofs.Reaching.{Reaches, and-then}
+use Rattle.running.proofs.Reaching.{Reaches, and-then}
 
 -- a run that goes on, on line i and with these counters
 pub record At (i : ℕ) (cs : List Counter) (r : Run) : Type 0 where
@@ -46,27 +45,27 @@ few-then is (same y a) (same z le) = same (omega arith) (omega arith)
 
 -- ---- to come to a line
 
--- x comes to line j in t ticks, in a call that has run few lines, with these counters
-pub record Arrives (p : List ℕ) (x : Ran) (t j : ℕ) (cs : List Counter) (n len : ℕ) : Type 0 where
+-- x comes to line j in t ticks, in a call that has run few lines, with these counters; meanwhile P holds, tick by tick
+pub record Arrives (p : List ℕ) (P : ℕ → Ran → Type 0) (x : Ran) (t j : ℕ) (cs : List Counter) (n len : ℕ) : Type 0 where
   pub run : Run
   pub lines : ℕ
   pub left : ℕ
   pub budget : lines + left ≡ 400
   pub few : Few t n len lines
-  pub reaches : Reaches p x t (runDue p left lines run)
+  pub reaches : Reaches p P x t (runDue p left lines run)
   pub at : At j cs run
 
 -- one way before another
-pub led : {p : List ℕ} {x y : Ran} {s t u j : ℕ} {cs : List Counter} {m n more all : ℕ}
-    → Reaches p x s y → (q : Arrives p y t j cs m more) → u ≡ s + t → Few u n all (q .lines) → Arrives p x u j cs n all
-led {p} way q is few =
+pub led : {p : List ℕ} (P : ℕ → Ran → Type 0) {x y : Ran} {s t u j : ℕ} {cs : List Counter} {m n more all : ℕ}
+    → Reaches p P x s y → (q : Arrives p (λ i. P (s + i)) y t j cs m more) → u ≡ s + t → Few u n all (q .lines) → Arrives p P x u j cs n all
+led {p} P way q is few =
     record {
       run = q .run;
       lines = q .lines;
       left = q .left;
       budget = q .budget;
       few = few;
-      reaches = rw is (and-then p way (q .reaches));
+      reaches = rw is (and-then p P way (q .reaches));
       at = q .at;
     }
 
@@ -79,9 +78,3 @@ goes-to p left n r k s loop is =
 -- the counters of the loops in a run of lines are free
 unfoldable pub Free : List ℕ → ℕ → ℕ → List Counter → Type 0
 Free p i j cs = (k c x : ℕ) → i ≤ k → k < j → lineAt p k ≡ For c x → getD cs (c - 1) free ≡ free
-
--- The running rule passes from line i to line j in as many ticks as the lines take.
-unfoldable pub Passes : List ℕ → ℕ → ℕ → Type 0
-Passes p i j =
-    (cs : List Counter) → length cs ≡ 4 → Free p i j cs → (r : Run) → At i cs r → (n left : ℕ) → n + left ≡ 400 → j - i ≤ left
-    → Arrives p (runDue p left n r) (runTicks p i j) j cs n (j - i)
