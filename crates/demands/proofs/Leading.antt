@@ -12,7 +12,8 @@ use Rattle.formats.proofs.Checks.{if-case, both-true, neither}
 use Rattle.lines.proofs.Lines.{Word}
 use Rattle.running.specs.declared.Run.{Run}
 use Rattle.log.specs.declared.Change.{Change}
-use Rattle.reader.specs.Possible.{lastOf, isCause, inOneByte, mostNumber, areNext}
+use Rattle.log.specs.Record.{isCause}
+use Rattle.reader.specs.Possible.{lastOf, inOneByte, mostNumber, areNext}
 use Rattle.formats.specs.Bytes.{areBytes}
 use Rattle.reader.proofs.Possible.{last-snoc, says-next, next-append}
 use Rattle.reader.proofs.Words.{From, from-sooner, from-append}
