@@ -50,9 +50,9 @@ unfolding failing scripts Applying.failingOf Premises.counted Applying.readsBack
     Checks._>>=_ Checks._>>_ Checks._orElse_ Checks.text Digits.digits Digits.numberAfter Digits.shown Digits.numberIn Digits.hIn Digits.dIn
     Digits.errorText Bytes.placed Line.readLine Line.bytesOf Program.lineAt Program.firstNext Program.nextAfter Text.lineText Text.counterIn Text.stateIn
     Text.forIn Text.nextIn Text.lineIn Running.stopped Running.onward Running.runLine Running.step Running.runDue Running.start Running.tick Running.ticks
-    Report.report Report.reportTo Searches.firstOf Searches.someBefore LineLoops.endLine LineLoops.nextOf LineLoops.counterAt Loops.isInside Loops.crosses Loops.startsInOwn
-    Loops.lacksNext Loops.lacksFor Loops.isTangled Loops.endsInside Ticks.past Ticks.summed Ticks.runTicks Ticks.idlesAt Ticks.idles Ticks.hasBad
-    Reading.ownWords Reading.isChangeRecord Reading.isGap Reading.joins Reading.canHold Reading.mayFollow Reading.isPossible Reading.mayStand
+    Report.report Report.reportTo Searches.firstOf Searches.someBefore LineLoops.endLine LineLoops.nextOf LineLoops.counterAt Loops.isInside Loops.crosses
+    Loops.startsInOwn Loops.lacksNext Loops.lacksFor Loops.isTangled Loops.endsInside Ticks.past Ticks.summed Ticks.runTicks Ticks.idlesAt Ticks.idles
+    Ticks.hasBad Reading.ownWords Reading.isChangeRecord Reading.isGap Reading.joins Reading.canHold Reading.mayFollow Reading.isPossible Reading.mayStand
     Reading.readAfter Reading.readingAs Reading.changesIn Layout.layoutOf Layout.recordIn Possible.inOneByte Possible.leadsTo Words.isOutsideGap
     Record.recordOf Record.changeRecord Record.gapRecord Log.addChange Log.records Log.emptied Collecting.collect Collecting.sent Special.forbidden
     Special.specialOf Command.addressIn Command.specialIn Command.dataIn Command.readCommand Command.writeCommand Command.commandIn Command.command

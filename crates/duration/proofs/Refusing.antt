@@ -18,9 +18,8 @@ use Rattle.running.proofs.Reaching.{one-number}
 use Rattle.duration.specs.Ticks.{runTicks}
 use Rattle.duration.specs.Report.{mostTicks, report}
 use Rattle.duration.specs.Reasons.{Tangled, EndInside, Idle, BadBefore, Reason, e030, e042, e040, e041, e044, e014, e043, place}
-use Rattle.duration.proofs.Order.{checks, by-checks}
+use Rattle.duration.proofs.Order.{checks, by-checks, the-end, not-tangled, outside, takes-its-lines}
 use Rattle.duration.proofs.Reasons.{tangled-only, tangled-so, inside-only, inside-so, idle-only, idle-so, bad-only, bad-so}
-use Rattle.duration.proofs.Taking.{the-end, not-tangled, outside, takes-its-lines}
 
 -- a refusal is named by its number
 abbrev itself : ℕ → ℕ

@@ -38,7 +38,8 @@ module _ (p : List ℕ) (r : Run) where
       (λ _ _ _. onward-way (ap isForOrNext is) _)
       (λ _ _ _. onward-way (ap isForOrNext is) _)
   line-way (Next c) is =
-      next-ways (Way p r) p r c (λ none. hasEnded 8 r (loose refl is none refl) refl) (λ _. goesOn (ap isForOrNext is) refl) (λ _. onward-way (ap isForOrNext is) _)
+      next-ways (Way p r) p r c (λ none. hasEnded 8 r (loose refl is none refl) refl) (λ _. goesOn (ap isForOrNext is) refl)
+      (λ _. onward-way (ap isForOrNext is) _)
   line-way Bad is = bad-way (Way p r) p r (hasEnded 14 r (bad refl is refl) refl)
 
   pub step-way : Way p r (step p r)

@@ -198,4 +198,6 @@ module _ (p : List ℕ) (Q : Ran → Type 0) (k c x nx : ℕ) (is : lineAt p k �
           line = ap (λ l. l + 1) (a .line);
           counters = ap₂ (λ l (v : Counter). set l (c - 1) v) (a .counters) (ap₂ (λ y l. record { count = y; line = l }) is-some (a .line));
         } in
-        counted-turns m is-some go (turns takes body m (atLine (r .line + 1) begun) at (n + 1) (left - 1) (omega (arith, some)) (omega (arith, some, pairing .notBefore)))
+        counted-turns m is-some go
+        (turns takes body m (atLine (r .line + 1) begun) at (n + 1) (left - 1) (omega (arith, some))
+        (omega (arith, some, pairing .notBefore)))

@@ -1,3 +1,4 @@
+-- Nobody has to believe this before 02, item 9, asks for it: no theorem speaks of it yet.
 -- The moments of a run: the runs at which a line falls due, one behind the other by the running rules. And what they tell of an end.
 -- 02, item 9: "for 006 the line of the For that holds the counter, [...] for 007 the counter sought, for 013 the State line last held, if any".
 use Prim.Native.Nat.{ℕ, _+_, _≤_, _<_}
