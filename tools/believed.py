@@ -25,7 +25,7 @@ import re
 import sys
 
 from declarations import code, declarations, without_texts
-from promises import QUOTED, module_files, theorem_modules
+from promises import QUOTED, laws_file, module_files, theorem_modules
 
 ROOT = os.path.dirname(os.path.dirname(os.path.abspath(__file__)))
 PAGE = 'docs/BELIEVED.md'
@@ -118,7 +118,7 @@ def module_path(module):
         return None, None, None
     if parts[2] == 'declared':
         return None, crate, parts[3]
-    path = f'crates/{crate}/{parts[1]}/{parts[2]}.antt'
+    path = f'crates/{crate}/{"/".join(parts[1:])}.antt'
     return (path if os.path.exists(os.path.join(ROOT, path)) else None), crate, None
 
 
@@ -290,7 +290,7 @@ def parts_of(one):
 
 def theorems(reader, modules):
     for crate, module in modules:
-        file = reader.file(f'crates/{crate}/proofs/{module}.antt')
+        file = reader.file(laws_file(crate, module))
         for one in file.declared.values():
             if one.public and not one.kind:
                 yield file, one

@@ -40,9 +40,9 @@ def lines(pattern):
 
 def sizes(crate):
     base = f'crates/{crate}'
-    laws = lines(f'{base}/proofs/*.antt')
-    return {'code': lines(f'{base}/src/**/*.rt'), 'definitions': lines(f'{base}/specs/**/*.antt'), 'laws': laws,
-            'proofs': lines(f'{base}/proofs/**/*.antt') - laws, 'edits': len(glob.glob(os.path.join(ROOT, base, 'must-fail/*.edit')))}
+    proofs = lines(f'{base}/proofs/**/Proof.antt')
+    return {'code': lines(f'{base}/src/**/*.rt'), 'definitions': lines(f'{base}/specs/**/*.antt'), 'laws': lines(f'{base}/proofs/**/*.antt') - proofs,
+            'proofs': proofs, 'edits': len(glob.glob(os.path.join(ROOT, base, 'must-fail/*.edit')))}
 
 
 def run(command, folder):
@@ -125,7 +125,7 @@ def main():
         out.write(outside())
 
 
-KINDS = [('code', r'crates/\w+/src/'), ('definitions', r'crates/\w+/specs/'), ('laws', r'crates/\w+/proofs/\w+\.antt$'),
+KINDS = [('code', r'crates/\w+/src/'), ('definitions', r'crates/\w+/specs/'), ('laws', r'crates/\w+/proofs/(\w+/)*(?!Proof\.)\w+\.antt$'),
          ('walks that `tools/by_reference.py` writes', r'crates/nizhalepu/proofs/nizhalepu_(?!duration)'), ('proofs of functions', r'crates/\w+/proofs/'),
          ('edits', r'crates/\w+/must-fail/'), ('`model`, `independent`', r'(model|independent)/'), ('`host`, `run`', r'host/|run$'),
          ('`tools`', r'tools/'), ('papers', r'docs/|README'), ('other', r'')]

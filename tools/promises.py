@@ -3,8 +3,8 @@
 
 Usage: python3 tools/promises.py
 
-Names stand in backquotes. `crate/Module.name` is declared in crates/crate/{specs,proofs}/Module.antt, at the top or as public in a module,
-and not as a part of a record; `crate/Module` alone is a module. `crate::function` and `crate::Type::function` stand in crates/crate/src;
+Names stand in backquotes. `crate/Module.name` is declared in crates/crate/{specs,proofs}/Module.antt, or in a group of modules in a folder there, at
+the top or as public in a module, and not as a part of a record; `crate/Module` alone is a module. `crate::function` and `crate::Type::function` stand in crates/crate/src;
 `crate!edit` is crates/crate/must-fail/edit.edit; `corners/scenario` and `trials/scenario` are functions of model/. A path that begins with
 a folder of the repository is a file. Anything else in backquotes is a program, a crate or plain text, and has none of these forms.
 The theorems are all that is public in the modules that the head of the paper lists; each module of `demands` must stand in the head.
@@ -49,8 +49,13 @@ def declared(path):
 
 def module_files(crate, module):
     """the definitions' and the laws' file of that name, as far as they exist"""
-    paths = [os.path.join('crates', crate, kind, module + '.antt') for kind in ('specs', 'proofs')]
-    return [path for path in paths if os.path.exists(os.path.join(ROOT, path))]
+    paths = [glob.glob(os.path.join(ROOT, 'crates', crate, kind, folder, module + '.antt')) for kind in ('specs', 'proofs') for folder in ('', '*')]
+    return [os.path.relpath(path, ROOT) for found in paths for path in found]
+
+
+def laws_file(crate, module):
+    """the laws' file of that name"""
+    return next(path for path in module_files(crate, module) if path.split(os.sep)[2] == 'proofs')
 
 
 def functions(kind):
@@ -78,16 +83,16 @@ def theorem_modules():
 
 def theorems():
     for crate, module in theorem_modules():
-        for name, public in declared(os.path.join('crates', crate, 'proofs', module + '.antt')):
+        for name, public in declared(laws_file(crate, module)):
             if public:
                 yield f'{crate}/{module}.{name}'
 
 
 def unlisted():
     """the modules of `demands` that the head does not name"""
-    for path in sorted(glob.glob(os.path.join(ROOT, 'crates/demands/proofs/*.antt'))):
+    for path in sorted(glob.glob(os.path.join(ROOT, 'crates/demands/proofs/*/*.antt'))):
         name = 'demands/' + os.path.basename(path)[:-len('.antt')]
-        if name != 'demands/Lib' and f'`{name}`' not in HEAD:
+        if f'`{name}`' not in HEAD:
             yield name
 
 

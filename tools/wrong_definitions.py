@@ -48,7 +48,7 @@ from pointwise_edits import Known, pointwise, premise_edits
 
 STATEMENTS = 'demands'
 # modules of it that take long to prove, on which no other stands: in the copy they are a crate of their own, `computed`
-SLOW = ('Worked', 'Applied', 'PutToUse')
+SLOW_GROUP, SLOW = 'Applies', ('Worked', 'Applied', 'PutToUse')
 OUTSIDE = {'io', 'os', 'libc'}  # what stands on these is a program, or part of one
 SORTS = ('plain', 'pointwise', 'premise')
 PLAN = '140,120,50'  # edits of each sort
@@ -89,11 +89,11 @@ def strip(crates, names, place):
             os.makedirs(os.path.dirname(to), exist_ok=True)
             with open(path) as source, open(to, 'w') as out:
                 out.write(without_functions(source.read()))
-        laws = glob.glob(f'{own}/proofs/*.antt')
-        if laws:
-            os.makedirs(f'{copy}/proofs')
-        for path in laws:
-            shutil.copy(path, f'{copy}/proofs')
+        for path in glob.glob(f'{own}/proofs/**/*.antt', recursive=True):
+            if os.path.basename(path) != 'Proof.antt':
+                to = copy + path[len(own):]
+                os.makedirs(os.path.dirname(to), exist_ok=True)
+                shutil.copy(path, to)
     set_apart(f'{place}/crates/{STATEMENTS}', f'{place}/crates/computed')
 
 
@@ -103,15 +103,15 @@ def set_apart(own, other):
         os.makedirs(f'{other}/{folder}')
     open(f'{other}/specs/Lib.antt', 'w').close()
     shutil.copy(f'{own}/src/lib.rt', f'{other}/src')
-    with open(f'{own}/proofs/Lib.antt') as source:
+    with open(f'{own}/proofs/{SLOW_GROUP}.antt') as source:
         listed_ = source.read()
     for name in SLOW:
         listed_ = listed_.replace(f'pub mod {name}\n', '')
-        with open(f'{own}/proofs/{name}.antt') as source, open(f'{other}/proofs/{name}.antt', 'w') as out:
+        with open(f'{own}/proofs/{SLOW_GROUP}/{name}.antt') as source, open(f'{other}/proofs/{name}.antt', 'w') as out:
             out.write(re.sub(rf'Rattle·{STATEMENTS}·(specs|proofs)\.', rf'Rattle.{STATEMENTS}.', re.sub(
-                rf'Rattle\.{STATEMENTS}\.proofs\.({"|".join(SLOW)})\b', r'Rattle.computed.proofs.\1', source.read())))
-        os.remove(f'{own}/proofs/{name}.antt')
-    with open(f'{own}/proofs/Lib.antt', 'w') as out:
+                rf'Rattle\.{STATEMENTS}\.proofs\.{SLOW_GROUP}\.({"|".join(SLOW)})\b', r'Rattle.computed.proofs.\1', source.read())))
+        os.remove(f'{own}/proofs/{SLOW_GROUP}/{name}.antt')
+    with open(f'{own}/proofs/{SLOW_GROUP}.antt', 'w') as out:
         out.write(listed_)
     with open(f'{other}/proofs/Lib.antt', 'w') as out:
         out.writelines(f'pub mod {name}\n' for name in SLOW)

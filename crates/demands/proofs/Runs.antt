@@ -1,0 +1,5 @@
+-- Demand 3: a program that runs, and how it ends.
+pub mod LinesRun
+pub mod Undisturbed
+pub mod ByTheRules
+pub mod Ends
