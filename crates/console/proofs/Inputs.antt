@@ -5,12 +5,11 @@ use mathlib.Core.List.{List, [], _∷_, _++_, append-nil, map-append}
 use mathlib.Core.Path.{_≡_, refl, sym, ap, _∙_}
 use Prim.Native.Nat.{ℕ, suc, _+_, _≤_, _<_}
 use native.Mathlib.Omega.{arith}
-use lib.ListN.{length, getD, take, drop, replicate, take-append-drop}
+use lib.ListN.{length, getD, take, drop, take-append-drop}
 use lib.Seq.{take-nil, take-all, take-suc}
 use borrow.Author.Tests.{ne-eqb}
 use Rattle.controller.specs.Controller.{areas, fresh}
 use Rattle.controller.specs.Refusals.{Call, powerOn, byte, tick, press}
-use Rattle.controller.specs.Calls.{After, call}
 use Rattle.controller.specs.Invariant.{Invariant}
 use Rattle.controller.proofs.Invariant.{fresh-invariant, call-invariant}
 use Rattle.calls.specs.declared.SwitchBox.{SwitchBox}
@@ -20,21 +19,24 @@ use Rattle.streams.specs.declared.Output.{Output}
 use Rattle.streams.specs.Gathering.{gathered, waitsAfter, Puts}
 use Rattle.streams.proofs.Gathering.{nothing-waits}
 use Rattle.console.specs.Inputs.{Held, holding, made, heldBy, replyOf, heldAfter, replies, waitsAfterAll}
-use Rattle.console.specs.Inputs.{Does, Takes, callOf, callsOf, Feeds, Turns, begins, Ran}
+use Rattle.console.specs.Inputs.{Does, Takes, callOf, callsOf, Feeds, Turns, unpowered, begins, Ran}
 use Rattle.console.specs.declared.Next.{Next}
 
 -- ---- lists of calls
 
+-- what is held after some and then more
 held-then : (ks ls : List Call) (h : Held) → heldAfter (ks ++ ls) h ≡ heldAfter ls (heldAfter ks h)
 unfolding heldAfter
 held-then [] ls h = refl
 held-then (k ∷ ks) ls h = held-then ks ls (heldBy k h (made k h))
 
+-- the replies to some and then to more
 replies-then : (ks ls : List Call) (h : Held) → replies (ks ++ ls) h ≡ replies ks h ++ replies ls (heldAfter ks h)
 unfolding heldAfter replies
 replies-then [] ls h = refl
 replies-then (k ∷ ks) ls h = ap (λ (rs : List (List ℕ)). replyOf (made k h) ∷ rs) (replies-then ks ls (heldBy k h (made k h)))
 
+-- what waits after some and then after more
 waits-then : (size : ℕ) (waited : List ℕ) (ps qs : List (List ℕ))
     → waitsAfterAll size waited (ps ++ qs) ≡ waitsAfterAll size (waitsAfterAll size waited ps) qs
 unfolding waitsAfterAll
@@ -43,7 +45,7 @@ waits-then size waited (p ∷ ps) qs = waits-then size (waitsAfter size waited p
 
 -- ---- what they do
 
--- no call does nothing
+-- where there is no call, nothing is done
 pub does-nothing : (h : Held) (o o′ : Output) (block : List ℕ) → o′ .used ≡ o .used → (o′ .open ≡ true → o .open ≡ true) → Does [] h o block h o′ block
 unfolding heldAfter replies waitsAfterAll
 does-nothing h o o′ block used failed = record { held = refl; waits = ap (λ (n : ℕ). take n block) used; failed = failed }
@@ -75,14 +77,14 @@ silent-takes k o block r n d (held, output, on) = record { does = rw (held, outp
 module _ (b : SwitchBox) (p s l : List ℕ) (o : Output) (block : List ℕ) where
   -- a byte to the wire, whose reply is put
   pub byte-does : (x : ℕ) (p′ s′ l′ y′ : List ℕ) (r : Returned) {o′ : Output} {block′ : List ℕ}
-      → after r (areas p′ s′ l′ y′) ≡ call (byte x) (b .controller) (areas p s l (replicate 16 0)) → Puts o block (take (r .written) y′) o′ block′
+      → after r (areas p′ s′ l′ y′) ≡ made (byte x) (holding b p s l) → Puts o block (take (r .written) y′) o′ block′
       → Does (byte x ∷ []) (holding b p s l) o block (holding (r .next) p′ s′ l′) o′ block′
   byte-does x p′ s′ l′ y′ r e puts =
       let h : Held = holding b p s l in
       does-one (byte x) (ap (heldBy (byte x) h) e) (rw (ap replyOf e) at (puts .waits)) (puts .failed)
 
   -- a tick, after which the output is as it was
-  pub tick-takes : (l′ : List ℕ) (r : Returned) (n : Next) → after r (areas p [] l′ []) ≡ call tick (b .controller) (areas p [] l [])
+  pub tick-takes : (l′ : List ℕ) (r : Returned) (n : Next) → after r (areas p [] l′ []) ≡ made tick (holding b p s l)
       → (n .held ≡ r .next) × (n .output ≡ o) × (n .on ≡ true) → Takes tick (holding b p s l) o block n (holding (n .held) p s l′) block
   tick-takes l′ r n e =
       let h : Held = holding b p s l in
@@ -90,14 +92,14 @@ module _ (b : SwitchBox) (p s l : List ℕ) (o : Output) (block : List ℕ) wher
       silent-takes tick o block r n (does-one tick (ap (heldBy tick h) e) (rw none (sym (nothing-waits (o .used) block))) (λ f. f))
 
   -- a press likewise
-  pub press-takes : (k : ℕ) (l′ : List ℕ) (r : Returned) (n : Next) → after r (areas p [] l′ []) ≡ call (press k) (b .controller) (areas p [] l [])
+  pub press-takes : (k : ℕ) (l′ : List ℕ) (r : Returned) (n : Next) → after r (areas p [] l′ []) ≡ made (press k) (holding b p s l)
       → (n .held ≡ r .next) × (n .output ≡ o) × (n .on ≡ true) → Takes (press k) (holding b p s l) o block n (holding (n .held) p s l′) block
   press-takes k l′ r n e =
       let h : Held = holding b p s l in
       let none : replyOf (made (press k) h) ≡ [] = sym (ap replyOf e) ∙ take-nil (r .written) in
       silent-takes (press k) o block r n (does-one (press k) (ap (heldBy (press k) h) e) (rw none (sym (nothing-waits (o .used) block))) (λ f. f))
 
--- ---- what a byte of input does
+-- ---- which call a byte of input is
 
 -- "the rest goes to the wire"
 pub rest-goes : (x : ℕ) → (x ≡ 1 → ⊥) → (x ≡ 2 → ⊥) → (x ≡ 3 → ⊥) → callOf x ≡ byte x
@@ -167,11 +169,9 @@ turn-more ran t = record {
 -- ---- the beginning
 
 -- the box of a power-on with zeros
-pub power-on-begins : {p s l : List ℕ} {r : Returned}
-    → after r (areas p s l []) ≡ call powerOn (fresh 0) (areas (replicate 1600 0) (replicate 1600 0) (replicate 32 0) [])
-    → holding (r .next) p s l ≡ begins
+pub power-on-begins : {p s l : List ℕ} {r : Returned} → after r (areas p s l []) ≡ made powerOn unpowered → holding (r .next) p s l ≡ begins
 unfolding begins
-power-on-begins e = ap (λ (x : After). record { controller = x .state; program = x .areas .program; saved = x .areas .saved; log = x .areas .log }) e
+power-on-begins e = ap (heldBy powerOn unpowered) e
 
 -- no byte has come yet
 pub ran-nothing : {b : SwitchBox} {p s l : List ℕ} → holding b p s l ≡ begins → Ran b p s l

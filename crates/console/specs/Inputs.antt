@@ -108,11 +108,12 @@ pub record Turns (h : Held) (o : Output) (block : List ℕ) (r : Next) (h′ : H
 
 -- ---- from the beginning
 
--- "starts from an all-zero saved copy and a 24-byte log": a power-on with these, and with a program area that is zero too
+-- "starts from an all-zero saved copy and a 24-byte log": what there is before the power-on, whose program area is zero too; power-on takes no state
+abbrev pub unpowered : Held
+unpowered = record { controller = fresh 0; program = replicate 1600 0; saved = replicate 1600 0; log = replicate 32 0 }
+
 unfoldable pub begins : Held
-begins =
-    let zero : Held = record { controller = fresh 0; program = replicate 1600 0; saved = replicate 1600 0; log = replicate 32 0 } in
-    heldBy powerOn zero (made powerOn zero)
+begins = heldBy powerOn unpowered (made powerOn unpowered)
 
 -- some bytes of input have come since: the box and its areas are as they left them
 pub record Ran (b : SwitchBox) (program saved log : List ℕ) : Type 0 where
