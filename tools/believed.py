@@ -5,7 +5,7 @@ Usage: python3 tools/believed.py [--check | --print | --laws | --why NAME]
 
 The theorems are what is public in the modules that the head of docs/PROMISES.md lists, but for definitions. Of each its statement counts,
 with the parameters of the modules that it stands in. So do the contracts of what is called from outside: of the public functions of
-`calls` and `nizhalepu`, and of the program `durations`. Every name used there is followed to its definition in the repository, and from the
+`calls` and `nizhalepu`, and of the programs `bench` and `durations`. Every name used there is followed to its definition in the repository, and from the
 definition's own text on to the names that it uses; a struct or an enum of the sources counts by its lines there. It stops at the
 toolchain's library and at what STOPS lists, with the reason, which the page shows too: of such a definition only its signature is followed.
 What a computed theorem says of each row of a table stands in the row: the modules that ROWS lists count as statements.
@@ -50,7 +50,9 @@ COMPUTED = ('demands/Worked', 'demands/Applied')
 # the modules of rows that the computed theorems speak of
 ROWS = tuple(f'crates/demands/specs/{name}.antt' for name in
              ('Points', 'CallsTable', 'WireTable', 'VariablesTable', 'RunningTable', 'LogTable', 'Tables', 'Scripts'))
-CALLED = ('crates/calls/src/lib.rt', 'crates/nizhalepu/src/lib.rt', 'crates/durations/src/main.rt')
+CALLED = ('crates/calls/src/lib.rt', 'crates/nizhalepu/src/lib.rt')
+# the programs whose contracts say what they tell; that of `bench` stands in `console`
+PROGRAMS = ('crates/console/src/lib.rt', 'crates/durations/src/main.rt')
 
 # a definition, or a type of the sources: where it stands and what it is called
 Name = collections.namedtuple('Name', 'path name')
@@ -314,11 +316,11 @@ def stated_in(theorems_):
 
 def contracts(reader):
     """the same of the contracts of the functions that are called from outside; those of a program are all of its own"""
-    for path in CALLED:
+    for path in CALLED + PROGRAMS:
         file, text = reader.file(path), read(path)
         for public, name, head in re.findall(r'^ *(pub )?(?:extern "C" )?fn (\w+)(.*?)^ *\{$', text, re.M | re.S):
             said = re.findall(r'⌜(.*?)⌝', head, re.S)
-            if said and (public or path.endswith('main.rt')):
+            if said and (public or path in PROGRAMS):
                 lines = [(0, line) for one in said for line in one.split('\n')]
                 yield Name(path, name), len(lines), {}, reader.used(file, lines)
 
@@ -346,8 +348,8 @@ def groups(reader):
     return [('The box', 'The theorems of `demands` over calls and what is seen of them.', of(box)),
             ('A log read back', 'The theorems of `reader`, and of `demands` on what a log tells; what they add.', of(OF_LOGS)),
             ('How long a program takes', 'The theorems of `duration`; what they add.', of(OF_DURATIONS)),
-            ('The code', 'The theorems of `calls` and `nizhalepu`, and the contracts of what is called from outside, the library and the program '
-             '`durations`; what they add.',
+            ('The code', 'The theorems of `calls` and `nizhalepu`, and the contracts of what is called from outside, the library and the programs '
+             '`bench` and `durations`; what they add.',
              itertools.chain(of(OF_THE_CODE), contracts(reader))),
             ('Computed points', 'What `demands/Worked` and `demands/Applied` add: the languages that the points, tables and histories are written in. These '
              'themselves are what is stated.',

@@ -1,7 +1,13 @@
 // A box on standard input and output: byte 1 is a tick, 2 and 3 are buttons 1 and 2, every other byte goes to the wire, and the
 // replies are gathered and go out before more input is waited for.
+// What each byte does, to the box, to every lent byte and to what is gathered, is in contracts, by specs/Inputs.antt; which bytes were read, and which
+// went out, is in none, since C's have none.
+ghost use mathlib.Core.Bool.{true};
 ghost use mathlib.Core.Path.{_≡_};
 ghost use Rattle.controller.specs.Invariant.{Invariant};
+ghost use Rattle.controller.specs.Refusals.{byte};
+ghost use Rattle.calls.specs.declared.SwitchBox.{SwitchBox};
+ghost use Rattle.console.specs.Inputs.{holding, callOf, Takes, Feeds, Turns, Ran, begins};
 use calls::Returned;
 use calls::SwitchBox;
 use streams::Output;
@@ -25,6 +31,9 @@ fn sent(
 ) -> Next
     requires { ⌜ Invariant (b .controller) ⌝ }
     ensures kept { λ r. ⌜ Invariant (r .held .controller) ⌝ }
+    ensures takes { λ r. ⌜ Takes (byte x) (holding b (now (program .entry)) (now (saved .entry)) (now (log .entry))) output
+        (now (block .entry)) r (holding (r .held) (now (program .exit)) (now (saved .exit)) (now (log .exit)))
+        (now (block .exit)) ⌝ }
 {
     let mut reply = [0u8; 16];
     let a = b.byte(x, program, saved, log, &mut reply);
@@ -36,7 +45,7 @@ fn sent(
 
 // After a call that has no reply.
 fn silent(a: Returned, output: Output) -> Next
-    ensures next { λ r. ⌜ r .held ≡ a .next ⌝ }
+    ensures next { λ r. ⌜ (r .held ≡ a .next) × (r .output ≡ output) × (r .on ≡ true) ⌝ }
 {
     let held = a.next;
     Next {
@@ -58,6 +67,9 @@ fn one(
 ) -> Next
     requires { ⌜ Invariant (b .controller) ⌝ }
     ensures kept { λ r. ⌜ Invariant (r .held .controller) ⌝ }
+    ensures takes { λ r. ⌜ Takes (callOf x) (holding b (now (program .entry)) (now (saved .entry)) (now (log .entry))) output
+        (now (block .entry)) r (holding (r .held) (now (program .exit)) (now (saved .exit)) (now (log .exit)))
+        (now (block .exit)) ⌝ }
 {
     if x == 1 {
         return silent(b.tick(program, log), output);
@@ -83,6 +95,9 @@ fn feed(
 ) -> Next
     requires { ⌜ Invariant (b .controller) ⌝ }
     ensures kept { λ r. ⌜ Invariant (r .held .controller) ⌝ }
+    ensures feeds { λ r. ⌜ Feeds (now (input .entry)) (holding b (now (program .entry)) (now (saved .entry)) (now (log .entry))) output
+        (now (block .entry)) r (holding (r .held) (now (program .exit)) (now (saved .exit)) (now (log .exit)))
+        (now (block .exit)) ⌝ }
 {
     let mut s = b;
     let mut o = output;
@@ -114,6 +129,9 @@ fn turn(
 ) -> Next
     requires { ⌜ Invariant (b .controller) ⌝ }
     ensures kept { λ r. ⌜ Invariant (r .held .controller) ⌝ }
+    ensures turns { λ r. ⌜ Turns (holding b (now (program .entry)) (now (saved .entry)) (now (log .entry))) output
+        (now (block .entry)) r (holding (r .held) (now (program .exit)) (now (saved .exit)) (now (log .exit)))
+        (now (block .exit)) ⌝ }
 {
     let mut input = [0u8; 4096];
     let empty = output.flushed(block);
@@ -137,7 +155,8 @@ fn turn(
 
 // Input to its end. A proved loop has to end, so it counts its turns down, from a number that no run uses up.
 fn turns(b: SwitchBox, program: &mut [u8], saved: &mut [u8], log: &mut [u8], block: &mut [u8])
-    requires { ⌜ Invariant (b .controller) ⌝ }
+    requires { ⌜ holding b (now program) (now saved) (now log) ≡ begins ⌝ }
+    ensures ran { λ _. ⌜ ((last : SwitchBox) × Ran last (now (program .exit)) (now (saved .exit)) (now (log .exit))) ⌝ }
 {
     let mut s = b;
     let mut o = Output::new();
@@ -155,8 +174,8 @@ fn turns(b: SwitchBox, program: &mut [u8], saved: &mut [u8], log: &mut [u8], blo
 
 // A box with an all-zero saved copy and the smallest log, from power-on to the end of the input.
 pub fn run() {
-    let mut program = [0u8; 1600];
-    let mut saved = [0u8; 1600];
+    let mut program = [0u8; lines::PROGRAM];
+    let mut saved = [0u8; lines::PROGRAM];
     let mut log = [0u8; log::LEAST_AREA];
     let mut block = [0u8; 4096];
     let a = SwitchBox::power_on(&mut program, &saved, &log);

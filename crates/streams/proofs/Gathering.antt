@@ -1,10 +1,10 @@
 -- What waits after bytes are put, in the three ways that `put` goes.
 -- Assumes nothing.
-use mathlib.Core.List.{List, _++_, append-assoc}
+use mathlib.Core.List.{List, [], _++_, append-nil, append-assoc}
 use mathlib.Core.Path.{_≡_, sym, ap, ap₂, _∙_}
 use Prim.Native.Nat.{ℕ, _+_, _-_, _≤_, _<_}
 use native.Mathlib.Omega.{arith}
-use lib.ListN.{length, take, drop}
+use lib.ListN.{length, take, drop, length-take}
 use lib.Seq.{length-take-le, take-length, take-at, take-append-add}
 use borrow.Author.Tests.{le-leb, lt-leb}
 use borrow.Rule.Slice.PartMut.{putMid}
@@ -46,3 +46,9 @@ module _ (block bytes : List ℕ) (used at : ℕ) (le : at ≤ length block) (sa
   pass block′ n e more =
       let full = lt-leb (length (take used block) + length bytes) (length block) (omega (arith, waited)) in
       rw (full, lt-leb (length bytes) (length block) more, e)
+
+-- no bytes leave what waits
+pub nothing-waits : (used : ℕ) (block : List ℕ) → waitsAfter (length block) (take used block) [] ≡ take used block
+unfolding waitsAfter
+nothing-waits used block =
+    rw (le-leb (length (take used block) + 0) (length block) (omega (arith, length-take used block))) (append-nil (take used block))

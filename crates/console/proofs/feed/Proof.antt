@@ -1,10 +1,12 @@
--- `console::feed` keeps the invariant, and ends when the input that came is used up.
+-- `console::feed` meets its contract. The invariant of its loop: the bytes so far have done what they do. The measure is how many are left.
 -- Assumes nothing.
-use mathlib.Core.Path.{_≡_}
+use mathlib.Core.Path.{_≡_, refl}
 use Prim.Native.Nat.{_≤_, _-_}
 use native.Mathlib.Omega.{arith}
-use lib.ListN.{length}
+use lib.ListN.{length, take}
 use Rattle.controller.specs.Invariant.{Invariant}
+use Rattle.console.specs.Inputs.{holding, callsOf, Does}
+use Rattle.console.proofs.Inputs.{does-nothing, one-more, ends-there, all-fed}
 use borrow.Author.Needs.{needs}
 use Rattle.console.proofs.feed.Statement.{statement}
 use Rattle.console.proofs.feed.Tie as tie
@@ -13,12 +15,17 @@ abbrev Inv-loop : tie.InvT-loop
 Inv-loop input program₀ saved₀ log₀ block₀ s₀ o₀ i₀ program saved log block s o i =
     (i ≤ length input) × (length program ≡ length program₀) × (length saved ≡ length saved₀) × (length log ≡ length log₀)
     × (length block ≡ length block₀) × Invariant (s .controller)
+    × Does (callsOf (take i input)) (holding s₀ program₀ saved₀ log₀) o₀ block₀ (holding s program saved log) o block
 
 abbrev μ-loop : tie.MeasureT-loop
 μ-loop input program₀ saved₀ log₀ block₀ s₀ o₀ i₀ program saved log block s o i = length input - i
 
 loop-holds : tie.Need-loop-holds Inv-loop μ-loop
-loop-holds c = search needs
+loop-holds c =
+    let start = c .before .before .before .before .before in
+    let a = start .args in
+    let nothing = does-nothing (holding (a .b) (a .program .now) (a .saved .now) (a .log .now)) (a .output) (a .output) (a .block .now) refl (λ e. e) in
+    (search needs, refl, refl, refl, refl, start .pre, nothing)
 
 shared-slice-read-one : tie.Need-shared-slice-read-one Inv-loop μ-loop
 shared-slice-read-one c = search needs
@@ -51,7 +58,12 @@ same-length-4 c =
     omega (arith, inv .4)
 
 returns : tie.Need-returns Inv-loop μ-loop
-returns c = c .before .before .before .before .before .before .before .before .before .before .one .ensures
+returns c =
+    let called = c .before .before .before .before .before .before .before .before .before .before in
+    let inv = called .before .before .before .before .before .before .before .loop .inv in
+    let tested = called .before .before .before .before .before .before .loop-test in
+    let one = called .one in
+    (one .ensures .0, ends-there _ _ (inv .6) (tested .taken) (inv .4) (one .ensures .1) (c .if1 .taken))
 
 add-i : tie.Need-add-i Inv-loop μ-loop
 add-i c =
@@ -67,7 +79,10 @@ loop-again : tie.Need-loop-again Inv-loop μ-loop
 loop-again c =
     let called = c .before .before .before .before .before .before .before .before .before .before .before .before in
     let inv = called .before .before .before .before .before .before .before .loop .inv in
-    (search needs, omega (arith, inv .1), omega (arith, inv .2), omega (arith, inv .3), omega (arith, inv .4), called .one .ensures)
+    let tested = called .before .before .before .before .before .before .loop-test in
+    let one = called .one in
+    let more = one-more _ _ (inv .6) (tested .taken) (inv .4) (one .ensures .1 .does) in
+    (search needs, omega (arith, inv .1), omega (arith, inv .2), omega (arith, inv .3), omega (arith, inv .4), one .ensures .0, more)
 
 same-length-5 : tie.Need-same-length-5 Inv-loop μ-loop
 same-length-5 c = search needs
@@ -82,7 +97,9 @@ same-length-8 : tie.Need-same-length-8 Inv-loop μ-loop
 same-length-8 c = search needs
 
 returns-2 : tie.Need-returns-2 Inv-loop μ-loop
-returns-2 c = c .before .loop .inv .5
+returns-2 c =
+    let inv = c .before .loop .inv in
+    (inv .5, all-fed _ _ (inv .6) (c .loop-test .left) _ refl refl)
 
 pub feed-spec : {M : Type 1} → statement M
 feed-spec =

@@ -1,6 +1,6 @@
--- `console::run` is safe: power-on gives the invariant that the calls require.
+-- `console::run` is safe, and begins as the turns require: by a power-on with zeros.
 -- Assumes nothing.
-use Rattle.calls.proofs.Kept.{power-on-gives}
+use Rattle.console.proofs.Inputs.{power-on-begins}
 use borrow.Author.Needs.{needs}
 use Rattle.console.proofs.run.Statement.{statement}
 use Rattle.console.proofs.run.Tie as tie
@@ -30,7 +30,7 @@ slice-aggregate-turns-4 : tie.Need-slice-aggregate-turns-4
 slice-aggregate-turns-4 c = search needs
 
 turns-requires : tie.Need-turns-requires
-turns-requires c κs = power-on-gives _ (c .before .before .before .before .before .before .power-on .ensures)
+turns-requires c κs = power-on-begins (c .before .before .before .before .before .before .power-on .ensures)
 
 returns : tie.Need-returns
 returns c = search needs

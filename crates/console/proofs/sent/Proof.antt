@@ -1,8 +1,9 @@
--- `console::sent` keeps the invariant.
+-- `console::sent` meets its contract: the call, and its reply put behind what waits.
 -- Assumes nothing.
 use Rattle.controller.specs.Refusals as Calls
 use Rattle.controller.specs.Controller.{areas}
 use Rattle.calls.proofs.Kept.{call-kept}
+use Rattle.console.proofs.Inputs.{byte-does}
 use borrow.Author.Needs.{needs}
 use Rattle.console.proofs.sent.Statement.{statement}
 use Rattle.console.proofs.sent.Tie as tie
@@ -34,10 +35,15 @@ same-length-4 c = search needs
 returns : tie.Need-returns
 returns c =
     let earlier = c .before .before .before .before .before .before .before .before .before .before in
+    let put = c .before .before .put-first in
     let called = earlier .before .before .before in
     let start = called .before .before .before .before .before .before .before .before .before in
     let a = start .args in
-    call-kept (Calls.byte (a .x)) (a .b .controller) (areas (a .program .now) (a .saved .now) (a .log .now) _) (called .byte .ensures) (start .pre)
+    let kept = call-kept (Calls.byte (a .x)) (a .b .controller) (areas (a .program .now) (a .saved .now) (a .log .now) _)
+    (called .byte .ensures) (start .pre) in
+    let does = byte-does (a .b) (a .program .now) (a .saved .now) (a .log .now) (a .output) (a .block .now) (a .x) _ _ _ _
+    (called .byte .result) (called .byte .ensures) (put .ensures) in
+    (kept, record { does = does; ends = λ e. e })
 
 pub sent-spec : {M : Type 1} → statement M
 sent-spec =

@@ -1,9 +1,11 @@
--- `console::turns` is safe and ends; the measure is the number of turns left.
+-- `console::turns` meets its contract. The invariant of its loop: some bytes have come since the beginning. The measure is the number of turns left.
 -- Assumes nothing.
-use mathlib.Core.Path.{_≡_}
+use mathlib.Core.Path.{_≡_, refl}
 use native.Mathlib.Omega.{arith}
 use lib.ListN.{length}
 use Rattle.controller.specs.Invariant.{Invariant}
+use Rattle.console.specs.Inputs.{Ran}
+use Rattle.console.proofs.Inputs.{turn-more, ran-nothing, begins-kept}
 use borrow.Author.Needs.{needs}
 use Rattle.console.proofs.turns.Statement.{statement}
 use Rattle.console.proofs.turns.Tie as tie
@@ -11,7 +13,7 @@ use Rattle.console.proofs.turns.Tie as tie
 abbrev Inv-loop : tie.InvT-loop
 Inv-loop program₀ saved₀ log₀ block₀ s₀ o₀ left₀ program saved log block s o left =
     (length program ≡ length program₀) × (length saved ≡ length saved₀) × (length log ≡ length log₀) × (length block ≡ length block₀)
-    × Invariant (s .controller)
+    × Invariant (s .controller) × Ran s program saved log
 
 abbrev μ-loop : tie.MeasureT-loop
 μ-loop program₀ saved₀ log₀ block₀ s₀ o₀ left₀ program saved log block s o left = left
@@ -20,7 +22,9 @@ new-requires : tie.Need-new-requires Inv-loop μ-loop
 new-requires c κs = search needs
 
 loop-holds : tie.Need-loop-holds Inv-loop μ-loop
-loop-holds c = search needs
+loop-holds c =
+    let pre = c .before .before .before .before .before .pre in
+    (refl, refl, refl, refl, begins-kept pre, ran-nothing pre)
 
 turn-requires : tie.Need-turn-requires Inv-loop μ-loop
 turn-requires c κs = c .before .before .before .before .before .loop .inv .4
@@ -50,7 +54,10 @@ same-length-4 c =
     omega (arith, loop .inv .3)
 
 returns : tie.Need-returns Inv-loop μ-loop
-returns c = search needs
+returns c =
+    let called = c .before .before .before .before .before .before .before .before .before .before in
+    let inv = called .before .before .before .before .before .before .loop .inv in
+    (called .turn .result .held, turn-more (inv .5) (called .turn .ensures .1))
 
 sub-left : tie.Need-sub-left Inv-loop μ-loop
 sub-left c = search needs
@@ -61,8 +68,14 @@ loop-less c = search needs
 loop-again : tie.Need-loop-again Inv-loop μ-loop
 loop-again c =
     let called = c .before .before .before .before .before .before .before .before .before .before .before .before in
-    let inv = called .before .before .before .before .before .before .loop .inv in
-    (omega (arith, inv .0), omega (arith, inv .1), omega (arith, inv .2), omega (arith, inv .3), called .turn .ensures)
+    let inv = called .before .before .before .before .before .before .loop .inv in (
+      omega (arith, inv .0),
+      omega (arith, inv .1),
+      omega (arith, inv .2),
+      omega (arith, inv .3),
+      called .turn .ensures .0,
+      turn-more (inv .5) (called .turn .ensures .1),
+    )
 
 same-length-5 : tie.Need-same-length-5 Inv-loop μ-loop
 same-length-5 c = search needs
@@ -77,7 +90,7 @@ same-length-8 : tie.Need-same-length-8 Inv-loop μ-loop
 same-length-8 c = search needs
 
 returns-2 : tie.Need-returns-2 Inv-loop μ-loop
-returns-2 c = search needs
+returns-2 c = (c .before .loop .s, c .before .loop .inv .5)
 
 pub turns-spec : {M : Type 1} → statement M
 turns-spec =

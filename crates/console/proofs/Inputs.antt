@@ -1,0 +1,186 @@
+-- Calls one after the other: what they leave, and what waits of their replies.
+-- Assumes nothing.
+use mathlib.Core.Bool.{true, not, true≢false}
+use mathlib.Core.List.{List, [], _∷_, _++_, append-nil, map-append}
+use mathlib.Core.Path.{_≡_, refl, sym, ap, _∙_}
+use Prim.Native.Nat.{ℕ, suc, _+_, _≤_, _<_}
+use native.Mathlib.Omega.{arith}
+use lib.ListN.{length, getD, take, drop, take-append-drop}
+use lib.Seq.{take-nil, take-all, take-suc}
+use borrow.Author.Tests.{ne-eqb}
+use Rattle.controller.specs.Controller.{areas, fresh}
+use Rattle.controller.specs.Refusals.{Call, powerOn, byte, tick, press}
+use Rattle.controller.specs.Invariant.{Invariant}
+use Rattle.controller.proofs.Invariant.{fresh-invariant, call-invariant}
+use Rattle.calls.specs.declared.SwitchBox.{SwitchBox}
+use Rattle.calls.specs.declared.Returned.{Returned}
+use Rattle.calls.specs.Returns.{after}
+use Rattle.streams.specs.declared.Output.{Output}
+use Rattle.streams.specs.Gathering.{gathered, waitsAfter, Puts}
+use Rattle.streams.proofs.Gathering.{nothing-waits}
+use Rattle.console.specs.Inputs.{Held, holding, made, heldBy, replyOf, heldAfter, replies, waitsAfterAll}
+use Rattle.console.specs.Inputs.{Does, Takes, callOf, callsOf, Feeds, Turns, unpowered, begins, Ran}
+use Rattle.console.specs.declared.Next.{Next}
+
+-- ---- lists of calls
+
+-- what is held after some and then more
+held-then : (ks ls : List Call) (h : Held) → heldAfter (ks ++ ls) h ≡ heldAfter ls (heldAfter ks h)
+unfolding heldAfter
+held-then [] ls h = refl
+held-then (k ∷ ks) ls h = held-then ks ls (heldBy k h (made k h))
+
+-- the replies to some and then to more
+replies-then : (ks ls : List Call) (h : Held) → replies (ks ++ ls) h ≡ replies ks h ++ replies ls (heldAfter ks h)
+unfolding heldAfter replies
+replies-then [] ls h = refl
+replies-then (k ∷ ks) ls h = ap (λ (rs : List (List ℕ)). replyOf (made k h) ∷ rs) (replies-then ks ls (heldBy k h (made k h)))
+
+-- what waits after some and then after more
+waits-then : (size : ℕ) (waited : List ℕ) (ps qs : List (List ℕ))
+    → waitsAfterAll size waited (ps ++ qs) ≡ waitsAfterAll size (waitsAfterAll size waited ps) qs
+unfolding waitsAfterAll
+waits-then size waited [] qs = refl
+waits-then size waited (p ∷ ps) qs = waits-then size (waitsAfter size waited p) ps qs
+
+-- ---- what they do
+
+-- where there is no call, nothing is done
+pub does-nothing : (h : Held) (o o′ : Output) (block : List ℕ) → o′ .used ≡ o .used → (o′ .open ≡ true → o .open ≡ true) → Does [] h o block h o′ block
+unfolding heldAfter replies waitsAfterAll
+does-nothing h o o′ block used failed = record { held = refl; waits = ap (λ (n : ℕ). take n block) used; failed = failed }
+
+-- some calls and then more
+pub does-then : (ks ls : List Call) {h h₁ h₂ : Held} {o o₁ o₂ : Output} {block block₁ block₂ : List ℕ} → length block₁ ≡ length block
+    → Does ks h o block h₁ o₁ block₁ → Does ls h₁ o₁ block₁ h₂ o₂ block₂ → Does (ks ++ ls) h o block h₂ o₂ block₂
+does-then ks ls {h} size d e = record {
+  held = e .held ∙ ap (heldAfter ls) (d .held) ∙ sym (held-then ks ls h);
+  waits = rw (replies-then ks ls h, waits-then) (rw (size, d .waits, d .held) at (e .waits));
+  failed = λ f. d .failed (e .failed f);
+}
+
+-- one call, from what it left and what waits of its reply
+does-one : (k : Call) {h h′ : Held} {o o′ : Output} {block block′ : List ℕ} → h′ ≡ heldBy k h (made k h)
+    → gathered o′ block′ ≡ waitsAfter (length block) (gathered o block) (replyOf (made k h)) → (o′ .open ≡ true → o .open ≡ true)
+    → Does (k ∷ []) h o block h′ o′ block′
+unfolding heldAfter replies waitsAfterAll
+does-one k held waits failed = record { held = held; waits = waits; failed = failed }
+
+-- a call with no reply, after which the output is as it was
+silent-takes : (k : Call) {h : Held} (o : Output) (block : List ℕ) {p s l : List ℕ} (r : Returned) (n : Next)
+    → Does (k ∷ []) h o block (holding (r .next) p s l) o block
+    → (n .held ≡ r .next) × (n .output ≡ o) × (n .on ≡ true) → Takes k h o block n (holding (n .held) p s l) block
+silent-takes k o block r n d (held, output, on) = record { does = rw (held, output) d; ends = λ off. absurd (true≢false (sym on ∙ off)) }
+
+-- ---- the calls of bench
+
+module _ (b : SwitchBox) (p s l : List ℕ) (o : Output) (block : List ℕ) where
+  -- a byte to the wire, whose reply is put
+  pub byte-does : (x : ℕ) (p′ s′ l′ y′ : List ℕ) (r : Returned) {o′ : Output} {block′ : List ℕ}
+      → after r (areas p′ s′ l′ y′) ≡ made (byte x) (holding b p s l) → Puts o block (take (r .written) y′) o′ block′
+      → Does (byte x ∷ []) (holding b p s l) o block (holding (r .next) p′ s′ l′) o′ block′
+  byte-does x p′ s′ l′ y′ r e puts =
+      let h : Held = holding b p s l in
+      does-one (byte x) (ap (heldBy (byte x) h) e) (rw (ap replyOf e) at (puts .waits)) (puts .failed)
+
+  -- a tick, after which the output is as it was
+  pub tick-takes : (l′ : List ℕ) (r : Returned) (n : Next) → after r (areas p [] l′ []) ≡ made tick (holding b p s l)
+      → (n .held ≡ r .next) × (n .output ≡ o) × (n .on ≡ true) → Takes tick (holding b p s l) o block n (holding (n .held) p s l′) block
+  tick-takes l′ r n e =
+      let h : Held = holding b p s l in
+      let none : replyOf (made tick h) ≡ [] = sym (ap replyOf e) ∙ take-nil (r .written) in
+      silent-takes tick o block r n (does-one tick (ap (heldBy tick h) e) (rw none (sym (nothing-waits (o .used) block))) (λ f. f))
+
+  -- a press likewise
+  pub press-takes : (k : ℕ) (l′ : List ℕ) (r : Returned) (n : Next) → after r (areas p [] l′ []) ≡ made (press k) (holding b p s l)
+      → (n .held ≡ r .next) × (n .output ≡ o) × (n .on ≡ true) → Takes (press k) (holding b p s l) o block n (holding (n .held) p s l′) block
+  press-takes k l′ r n e =
+      let h : Held = holding b p s l in
+      let none : replyOf (made (press k) h) ≡ [] = sym (ap replyOf e) ∙ take-nil (r .written) in
+      silent-takes (press k) o block r n (does-one (press k) (ap (heldBy (press k) h) e) (rw none (sym (nothing-waits (o .used) block))) (λ f. f))
+
+-- ---- which call a byte of input is
+
+-- "the rest goes to the wire"
+pub rest-goes : (x : ℕ) → (x ≡ 1 → ⊥) → (x ≡ 2 → ⊥) → (x ≡ 3 → ⊥) → callOf x ≡ byte x
+rest-goes x a b c = simp (ne-eqb x 1 a, ne-eqb x 2 b, ne-eqb x 3 c)
+
+-- ---- what more bytes do, in a loop over the input; of `input` the first i have done what they do
+
+module _ (input : List ℕ) (i : ℕ) {h h₁ : Held} {o o₁ : Output} {block block₁ : List ℕ} (d : Does (callsOf (take i input)) h o block h₁ o₁ block₁) where
+  -- one byte more
+  pub one-more : i < length input → length block₁ ≡ length block → {h₂ : Held} {o₂ : Output} {block₂ : List ℕ}
+      → Does (callOf (getD input i 0) ∷ []) h₁ o₁ block₁ h₂ o₂ block₂ → Does (callsOf (take (i + 1) input)) h o block h₂ o₂ block₂
+  one-more lt size e =
+      let x : ℕ = getD input i 0 in
+      let next : i + 1 ≡ suc i = omega arith in
+      let more : callsOf (take (i + 1) input) ≡ callsOf (take i input) ++ (callOf x ∷ []) =
+      rw next (ap callsOf (take-suc input i 0 lt) ∙ map-append callOf (take i input) (x ∷ [])) in
+      rw more (does-then (callsOf (take i input)) (callOf x ∷ []) size d e)
+
+  -- one byte more, whose reply the output failed with
+  pub ends-there : i < length input → length block₁ ≡ length block → {r : Next} {h₂ : Held} {block₂ : List ℕ}
+      → Takes (callOf (getD input i 0)) h₁ o₁ block₁ r h₂ block₂ → not (r .on) ≡ true → Feeds input h o block r h₂ block₂
+  ends-there lt size t off = record {
+    fed = take (i + 1) input;
+    left = drop (i + 1) input;
+    whole = take-append-drop (i + 1) input;
+    does = one-more lt size (t .does);
+    ends = t .ends;
+    all = λ on. absurd (true≢false (sym (rw on at off)));
+  }
+
+  -- all of them
+  pub all-fed : length input ≤ i → (r : Next) → r .output ≡ o₁ → r .on ≡ true → Feeds input h o block r h₁ block₁
+  all-fed le r output on = record {
+    fed = input;
+    left = [];
+    whole = append-nil input;
+    does = rw (output, sym (take-all i input le)) d;
+    ends = λ off. absurd (true≢false (sym on ∙ off));
+    all = λ _. refl;
+  }
+
+-- ---- turns
+
+-- what was gathered has gone out
+module _ (h : Held) (o e : Output) (block : List ℕ) (empty : (e .used ≡ 0) × (e .open ≡ true → o .open ≡ true)) where
+  -- and nothing came
+  pub nothing-came : (r : Next) → r .output ≡ e → Turns h o block r h block
+  nothing-came r output = record { fed = []; does = rw output (does-nothing h _ e block (empty .0) (empty .1)) }
+
+  -- and these came
+  pub some-came : {input : List ℕ} {r : Next} {h′ : Held} {block′ : List ℕ} → Feeds input h e block r h′ block′ → Turns h o block r h′ block′
+  some-came f = record {
+    fed = f .fed;
+    does = does-then [] (callsOf (f .fed)) refl (does-nothing h _ e block (empty .0) (empty .1)) (f .does);
+  }
+
+-- a turn more
+pub turn-more : {b b′ : SwitchBox} {p s l p′ s′ l′ : List ℕ} {o : Output} {block block′ : List ℕ} {r : Next}
+    → Ran b p s l → Turns (holding b p s l) o block r (holding b′ p′ s′ l′) block′ → Ran b′ p′ s′ l′
+turn-more ran t = record {
+  fed = ran .fed ++ t .fed;
+  held =
+      t .does .held ∙ ap (heldAfter (callsOf (t .fed))) (ran .held) ∙ sym (held-then (callsOf (ran .fed)) (callsOf (t .fed)) begins)
+      ∙ ap (λ ks. heldAfter ks begins) (sym (map-append callOf (ran .fed) (t .fed)));
+}
+
+-- ---- the beginning
+
+-- the box of a power-on with zeros
+pub power-on-begins : {p s l : List ℕ} {r : Returned} → after r (areas p s l []) ≡ made powerOn unpowered → holding (r .next) p s l ≡ begins
+unfolding begins
+power-on-begins e = ap (heldBy powerOn unpowered) e
+
+-- no byte has come yet
+pub ran-nothing : {b : SwitchBox} {p s l : List ℕ} → holding b p s l ≡ begins → Ran b p s l
+unfolding heldAfter
+ran-nothing e = record { fed = []; held = e }
+
+-- it has the invariant
+pub begins-kept : {b : SwitchBox} {p s l : List ℕ} → holding b p s l ≡ begins → Invariant (b .controller)
+unfolding begins
+begins-kept {b} e =
+    let state : b .controller ≡ begins .controller = ap (λ (x : Held). x .controller) e in
+    rw state (call-invariant powerOn (fresh 0) _ (fresh-invariant 0))
