@@ -4,6 +4,7 @@
 ghost use mathlib.Core.Path.{_≡_};
 ghost use Prim.Native.Nat.{_≤_};
 ghost use lib.ListN.{length};
+ghost use Rattle.lines.specs.Program.{IsProgram};
 ghost use Rattle.formats.specs.Checks.{text};
 ghost use Rattle.formats.specs.Digits.{errorText};
 ghost use Rattle.formats.specs.Writing.{Wrote};
@@ -23,7 +24,7 @@ use wire::Wire;
 
 // What the command collected so far asks for, by the seven checks; a read of a Bad line, behind them, is E024.
 pub fn asked(w: Wire, mode: Mode, panel: Panel, program: &[u8]) -> Heard
-    requires { ⌜ WireInvariant w × (length (now program) ≡ 1600) ⌝ }
+    requires { ⌜ WireInvariant w × IsProgram (now program) ⌝ }
     ensures heard { λ r. ⌜ ((c : Controller) → c .wire ≡ w → modeOf (c .run .on) (c .paused) ≡ mode → c .panel ≡ panel
         → r ≡ heardOf (asked c (now (program .entry)))) ⌝ }
 {
@@ -70,7 +71,7 @@ pub fn reply_value(
     k: u8,
     reply: &mut [u8],
 ) -> usize
-    requires { ⌜ (length (now program) ≡ 1600) × (k ≤ 216) × (16 ≤ length (now reply)) ⌝ }
+    requires { ⌜ IsProgram (now program) × (k ≤ 216) × (16 ≤ length (now reply)) ⌝ }
     ensures wrote { λ r. ⌜ Wrote 0 (ended (value panel run paused (now (program .entry)) k)) (now (reply .entry)) r (now (reply .exit)) ⌝ }
 {
     let at = variables::put_value(reply, 0, panel, run, paused, program, k);

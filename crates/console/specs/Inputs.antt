@@ -8,6 +8,7 @@ use mathlib.Core.Path.{_≡_}
 use lib.Dec.{eqb}
 use lib.ListN.{length, take, replicate}
 use Rattle.formats.specs.Checks.{if_then_else_}
+use Rattle.lines.specs.Program.{programSize}
 use Rattle.controller.specs.declared.Controller.{Controller}
 use Rattle.controller.specs.Controller.{Areas, areas, fresh}
 use Rattle.controller.specs.Refusals.{Call, powerOn, byte, tick, press, emptying}
@@ -110,7 +111,7 @@ pub record Turns (h : Held) (o : Output) (block : List ℕ) (r : Next) (h′ : H
 
 -- "starts from an all-zero saved copy and a 24-byte log": what there is before the power-on, whose program area is zero too; power-on takes no state
 abbrev pub unpowered : Held
-unpowered = record { controller = fresh 0; program = replicate 1600 0; saved = replicate 1600 0; log = replicate 32 0 }
+unpowered = record { controller = fresh 0; program = replicate programSize 0; saved = replicate programSize 0; log = replicate 32 0 }
 
 unfoldable pub begins : Held
 begins = heldBy powerOn unpowered (made powerOn unpowered)

@@ -1,9 +1,8 @@
 // Whether the loops of a program before its end are tangled. Definitions: specs/Loops.antt, and specs/Walk.antt for the walk.
 ghost use mathlib.Core.Path.{_≡_};
 ghost use Prim.Native.Nat.{_≤_, _<_};
-ghost use lib.ListN.{length};
 ghost use Rattle.lines.specs.declared.Line.the-variants.{For, Next};
-ghost use Rattle.lines.specs.Program.{lineAt, nextAfter};
+ghost use Rattle.lines.specs.Program.{IsProgram, lineAt, nextAfter};
 ghost use Rattle.lines.specs.Loops.{nextOf};
 ghost use Rattle.duration.specs.Walk.{isAcross, isAcrossOne, walkedLine, Walked};
 use lines::Line;
@@ -42,7 +41,7 @@ pub fn is_across_one(i: u8, n: u8, nexts: [u8; 4]) -> bool
 
 // A For on line i has a Next, and ends inside every loop in which it begins.
 fn walk_for(p: &[u8], i: u8, counter: u8, mut nexts: [u8; 4]) -> Walk
-    requires { ⌜ (length (now p) ≡ 1600) × (i < 200) × (1 ≤ counter) × (counter ≤ 4) ⌝ }
+    requires { ⌜ IsProgram (now p) × (i < 200) × (1 ≤ counter) × (counter ≤ 4) ⌝ }
     ensures walk { λ r. ⌜ r ≡ walkedLine (For counter 0) i (nextAfter (now (p .entry)) counter i) nexts ⌝ }
 {
     let n = lines::next_after(p, counter, i);
@@ -71,7 +70,7 @@ fn walk_next(i: u8, counter: u8, nexts: [u8; 4]) -> Walk
 
 // Line i, whatever it is.
 fn walk_line(p: &[u8], i: u8, nexts: [u8; 4]) -> Walk
-    requires { ⌜ (length (now p) ≡ 1600) × (i < 200) ⌝ }
+    requires { ⌜ IsProgram (now p) × (i < 200) ⌝ }
     ensures walk { λ r. ⌜ r ≡ walkedLine (lineAt (now (p .entry)) i) i (nextOf (now (p .entry)) i) nexts ⌝ }
 {
     let line = lines::line_at(p, i as usize);
@@ -89,7 +88,7 @@ fn walk_line(p: &[u8], i: u8, nexts: [u8; 4]) -> Walk
 
 // The lines before line e, to the first that makes a tangle.
 pub fn walked(p: &[u8], e: u8) -> Walk
-    requires { ⌜ (length (now p) ≡ 1600) × (e ≤ 200) ⌝ }
+    requires { ⌜ IsProgram (now p) × (e ≤ 200) ⌝ }
     ensures walk { λ r. ⌜ Walked (now (p .entry)) e r ⌝ }
 {
     let mut w = Walk {

@@ -3,7 +3,7 @@
 ghost use mathlib.Core.Path.{_≡_};
 ghost use mathlib.Core.Bool.{_||_};
 ghost use Prim.Native.Nat.{_+_, _≤_, _<_};
-ghost use lib.ListN.{length};
+ghost use Rattle.lines.specs.Program.{IsProgram};
 ghost use Rattle.duration.specs.Report.{answerOf};
 ghost use Rattle.duration.specs.Summing.{moreTicks, capped, noSum, plainSum, joined, repeated, sumOf, toldOf, Nests};
 use crate::Answer;
@@ -114,7 +114,7 @@ impl Sum {
 
 // The run of lines from `at` to before `end`.
 pub fn sequence(p: &[u8], at: usize, end: usize) -> Sum
-    requires { ⌜ (length (now p) ≡ 1600) × (end ≤ 200) × (Nests (now p) at end) ⌝ }
+    requires { ⌜ IsProgram (now p) × (end ≤ 200) × (Nests (now p) at end) ⌝ }
     ensures sum { λ r. ⌜ r ≡ sumOf (now (p .entry)) at end ⌝ }
 {
     let mut sum = none();
@@ -136,7 +136,7 @@ pub fn sequence(p: &[u8], at: usize, end: usize) -> Sum
 
 // The loop from the For on line `at` to its Next on line n: its count times the run of lines inside it.
 fn looped(p: &[u8], at: usize, n: usize, count: u16) -> Sum
-    requires { ⌜ (length (now p) ≡ 1600) × (at < n) × (n < 200) × (Nests (now p) (at + 1) n) ⌝ }
+    requires { ⌜ IsProgram (now p) × (at < n) × (n < 200) × (Nests (now p) (at + 1) n) ⌝ }
     ensures sum { λ r. ⌜ r ≡ repeated count (sumOf (now (p .entry)) (at + 1) n) ⌝ }
 {
     let inside = sequence(p, at + 1, n);

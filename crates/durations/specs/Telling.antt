@@ -5,9 +5,8 @@ use Prim.Native.Nat.{ℕ, _+_}
 use mathlib.Core.Path.{_≡_}
 use mathlib.Core.Bool.{not}
 use mathlib.Core.List.{List, [], _∷_, _++_}
-use lib.ListN.{length}
-use lib.Dec.{eqb}
 use Rattle.formats.specs.Digits.{errorText}
+use Rattle.lines.specs.Program.{isProgram}
 use Rattle.streams.specs.declared.Output.{Output}
 use Rattle.streams.specs.Gathering.{Puts, PutsNumber}
 use Rattle.duration.specs.declared.Answer.{Answer}
@@ -25,5 +24,5 @@ PutsLine o block (Refused e) r block′ = Puts o block (errorText e ++ (10 ∷ [
 pub record Tells (o : Output) (block : List ℕ) (before : ℕ) (p : List ℕ) (r : Progress) (block′ : List ℕ) : Type 0 where
   pub line : PutsLine o block (answerOf (report p)) (r .output) block′
   pub total : r .total ≡ cappedTotal (before + adds (answerOf (report p)))
-  pub on : r .on ≡ eqb (length p) 1600
+  pub on : r .on ≡ isProgram p
   pub failed : r .failed ≡ not (r .output .open)

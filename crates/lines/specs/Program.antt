@@ -18,6 +18,9 @@ programSize = 1600
 abbrev pub isProgram : List ℕ → Bool
 isProgram area = eqb (length area) programSize
 
+abbrev pub IsProgram : List ℕ → Type 0
+IsProgram area = length area ≡ programSize
+
 -- line k
 unfoldable pub lineAt : List ℕ → ℕ → Line
 lineAt p k = readLine (drop (8 * k) p)

@@ -8,7 +8,7 @@ ghost use lib.Dec.{eqb, leb};
 ghost use Rattle.formats.specs.Checks.{if_then_else_};
 ghost use Rattle.lines.specs.declared.Line.the-variants.{State, For, Next, Bad};
 ghost use Rattle.lines.specs.Line.{endMark, isCounter, isEnd, isBad, readLine, bytesOf};
-ghost use Rattle.lines.specs.Program.{lineAt, putLine, isNextOf, nextAfter};
+ghost use Rattle.lines.specs.Program.{IsProgram, lineAt, putLine, isNextOf, nextAfter};
 ghost use Rattle.lines.specs.Loops.{endLine};
 
 pub enum Line {
@@ -207,7 +207,7 @@ fn is_next_of(c: u8, l: Line) -> bool
 
 // Line i is a Next of counter c. Its first two bytes are asked first, of which the counter decides for nearly every line of a search.
 fn is_next_at(p: &[u8], c: u8, i: usize) -> bool
-    requires { ⌜ (length (now p) ≡ 1600) × (i < 200) ⌝ }
+    requires { ⌜ IsProgram (now p) × (i < 200) ⌝ }
     ensures test { λ r. ⌜ r ≡ isNextOf c (lineAt (now (p .entry)) i) ⌝ }
 {
     if p[8 * i + 1] != c {
@@ -221,7 +221,7 @@ fn is_next_at(p: &[u8], c: u8, i: usize) -> bool
 
 // The first Next of counter c on a line later than k; 200 where there is none.
 pub fn next_after(p: &[u8], c: u8, k: u8) -> u8
-    requires { ⌜ (length (now p) ≡ 1600) × (k < 200) ⌝ }
+    requires { ⌜ IsProgram (now p) × (k < 200) ⌝ }
     ensures line { λ r. ⌜ r ≡ nextAfter (now (p .entry)) c k ⌝ }
 {
     let mut i = k as usize + 1;
@@ -236,7 +236,7 @@ pub fn next_after(p: &[u8], c: u8, k: u8) -> u8
 
 // The first line that is a State with time 0; 200 where there is none.
 pub fn end_line(p: &[u8]) -> u8
-    requires { ⌜ length (now p) ≡ 1600 ⌝ }
+    requires { ⌜ IsProgram (now p) ⌝ }
     ensures line { λ r. ⌜ (r ≡ endLine (now (p .entry))) × (r ≤ 200) ⌝ }
 {
     let mut i: u8 = 0;
@@ -251,7 +251,7 @@ pub fn end_line(p: &[u8]) -> u8
 
 // The 200 lines are copied, byte by byte, whatever they are.
 pub fn copy_program(from: &[u8], to: &mut [u8])
-    requires { ⌜ (length (now from) ≡ 1600) × (length (now to) ≡ 1600) ⌝ }
+    requires { ⌜ IsProgram (now from) × IsProgram (now to) ⌝ }
     ensures program { λ _. ⌜ now (to .exit) ≡ now (from .entry) ⌝ }
 {
     formats::copy(from, to, PROGRAM);

@@ -4,7 +4,7 @@ ghost use mathlib.Core.Path.{_≡_};
 ghost use mathlib.Core.Bool.{true};
 ghost use mathlib.Core.List.{[]};
 ghost use Prim.Native.Nat.{_<_};
-ghost use lib.ListN.{length};
+ghost use Rattle.lines.specs.Program.{IsProgram};
 ghost use Rattle.lines.specs.declared.Line.the-variants.{State};
 ghost use Rattle.running.specs.Running.{free, allFree, freshRun, begun, withOutputs, stopped, onward, runLine};
 ghost use Rattle.running.specs.Running.{stops, runDue, start, tick};
@@ -184,7 +184,7 @@ impl Run {
     // The last line of a call, after n that counted: a State line is run, a Bad one ends the program with event 014; for any other, which
     // would be the 401st, it stops with event 013.
     fn last_due(self, p: &[u8], n: u16) -> Ran
-        requires { ⌜ (length (now p) ≡ 1600) × (RunInvariant self) ⌝ }
+        requires { ⌜ IsProgram (now p) × (RunInvariant self) ⌝ }
         ensures ran { λ r. ⌜ r ≡ runDue (now (p .entry)) 0 n self ⌝ }
     {
         let k = self.line;
@@ -215,7 +215,7 @@ impl Run {
 
     // Lines are run until one is held or ends the program, at most 400 of them For or Next.
     fn run_due(self, p: &[u8]) -> Ran
-        requires { ⌜ (length (now p) ≡ 1600) × (self .on ≡ true) × (RunInvariant self) ⌝ }
+        requires { ⌜ IsProgram (now p) × (self .on ≡ true) × (RunInvariant self) ⌝ }
         ensures ran { λ r. ⌜ r ≡ runDue (now (p .entry)) 400 0 self ⌝ }
     {
         let mut run = self;
@@ -244,7 +244,7 @@ impl Run {
 
     // One tick taken unpaused: a State line is held on, or the program goes on to the line after it.
     pub fn tick(mut self, p: &[u8]) -> Ran
-        requires { ⌜ (length (now p) ≡ 1600) × (RunInvariant self) ⌝ }
+        requires { ⌜ IsProgram (now p) × (RunInvariant self) ⌝ }
         ensures ran { λ r. ⌜ r ≡ tick (now (p .entry)) self ⌝ }
     {
         let on = self.on;
@@ -281,7 +281,7 @@ impl Run {
 
 // A start at line k with the outputs as they stand; all loops are free.
 pub fn start(p: &[u8], k: u8, outputs: u32) -> Ran
-    requires { ⌜ (length (now p) ≡ 1600) × (k < 200) ⌝ }
+    requires { ⌜ IsProgram (now p) × (k < 200) ⌝ }
     ensures ran { λ r. ⌜ r ≡ start (now (p .entry)) k outputs ⌝ }
 {
     let run = Run::begun(k, outputs);

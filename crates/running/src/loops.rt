@@ -4,7 +4,7 @@ ghost use mathlib.Core.Path.{_≡_};
 ghost use mathlib.Core.Bool.{true};
 ghost use mathlib.Core.List.{[]};
 ghost use Prim.Native.Nat.{ℕ, _<_};
-ghost use lib.ListN.{length};
+ghost use Rattle.lines.specs.Program.{IsProgram};
 ghost use Rattle.lines.specs.declared.Line.the-variants.{For, Next};
 ghost use Rattle.running.specs.declared.Run.{Run};
 ghost use Rattle.running.specs.Running.{atLine, withCounter, onward, isForOrNext};
@@ -51,7 +51,7 @@ fn past(held: Counter, k: u8) -> Turn
 // A For line takes its counter and goes on; with a busy counter event 006, with no later Next of it event 007. With count 0000 it
 // takes none and goes on from that Next.
 fn turn_for(p: &[u8], counter: u8, count: u16, k: u8, held: Counter) -> Turn
-    requires { ⌜ (length (now p) ≡ 1600) × (k < 200) ⌝ }
+    requires { ⌜ IsProgram (now p) × (k < 200) ⌝ }
     ensures turn { λ r. ⌜ Leads (now (p .entry)) (For counter count) k held r ⌝ }
 {
     let busy = held.count;
@@ -109,7 +109,7 @@ fn turn_next(k: u8, held: Counter) -> Turn
 
 // The line that is due, a For or a Next, which was read already.
 pub fn turn_of(p: &[u8], line: Line, k: u8, held: Counter) -> Turn
-    requires { ⌜ (length (now p) ≡ 1600) × (k < 200) × (held .line < 199) × (isForOrNext line ≡ true) ⌝ }
+    requires { ⌜ IsProgram (now p) × (k < 200) × (held .line < 199) × (isForOrNext line ≡ true) ⌝ }
     ensures turn { λ r. ⌜ Leads (now (p .entry)) line k held r ⌝ }
 {
     if let Line::For { counter, count } = line {

@@ -3,6 +3,7 @@
 ghost use mathlib.Core.Path.{_≡_};
 ghost use Prim.Native.Nat.{_+_, _-_, _*_, _≤_};
 ghost use lib.ListN.{length};
+ghost use Rattle.lines.specs.Program.{IsProgram};
 ghost use Rattle.formats.specs.Digits.{h, d, 2d};
 ghost use Rattle.formats.specs.Writing.{Wrote};
 ghost use Rattle.lines.specs.Line.{readLine, bytesOf};
@@ -123,7 +124,7 @@ fn single_line(single: &[u8; 8]) -> Line
 
 // The line at 000-200.
 pub fn line_of(panel: Panel, program: &[u8], k: u8) -> Line
-    requires { ⌜ (length (now program) ≡ 1600) × (k ≤ 200) ⌝ }
+    requires { ⌜ IsProgram (now program) × (k ≤ 200) ⌝ }
     ensures line { λ r. ⌜ r ≡ lineOf panel (now (program .entry)) k ⌝ }
 {
     if k == 200 {
@@ -135,7 +136,7 @@ pub fn line_of(panel: Panel, program: &[u8], k: u8) -> Line
 
 // Address k is one of 000-200, and a Bad line stands there.
 pub fn is_bad_at(panel: Panel, program: &[u8], k: u8) -> bool
-    requires { ⌜ length (now program) ≡ 1600 ⌝ }
+    requires { ⌜ IsProgram (now program) ⌝ }
     ensures test { λ r. ⌜ r ≡ isBadAt panel (now (program .entry)) k ⌝ }
 {
     if 200 < k {
@@ -186,7 +187,7 @@ pub fn put_value(
     program: &[u8],
     k: u8,
 ) -> usize
-    requires { ⌜ (length (now program) ≡ 1600) × (k ≤ 216) × (at + 15 ≤ length (now area)) ⌝ }
+    requires { ⌜ IsProgram (now program) × (k ≤ 216) × (at + 15 ≤ length (now area)) ⌝ }
     ensures wrote { λ r. ⌜ Wrote at (value panel run paused (now (program .entry)) k) (now (area .entry)) r (now (area .exit)) ⌝ }
     ensures near { λ r. ⌜ r ≤ at + 15 ⌝ }
 {
