@@ -2,7 +2,7 @@
 -- Assumes nothing.
 use Prim.Native.Nat.{ℕ, zero, suc, _+_, _*_, _-_, _≤_, _<_}
 use native.Mathlib.Omega.{arith}
-use mathlib.Core.Path.{_≡_, refl, sym, ap, _∙_}
+use mathlib.Core.Path.{_≡_, refl, sym, _∙_}
 use mathlib.Core.Logic.{_≢_}
 use mathlib.Core.Bool.{Bool, true, false}
 use mathlib.Core.List.{List}
@@ -16,27 +16,24 @@ use Rattle.lines.specs.Program.{lineAt, FirstFrom}
 use Rattle.lines.specs.Loops.{nextOf}
 use Rattle.lines.proofs.Pairs.{state-no-for, counter-ranged, counter-of, own-next}
 use Rattle.running.specs.declared.Counter.{Counter}
-use Rattle.running.specs.declared.Run.{Run}
-use Rattle.running.specs.Running.{free, atLine, withOutputs, waiting, runDue}
+use Rattle.running.specs.Running.{free, withOutputs}
 use Rattle.running.specs.Ticking.{Runs}
-use Rattle.running.proofs.Reaching.{RunsOn, at-once, held-runs, state-waits}
-use Rattle.running.proofs.Arriving.{At, few-sum, few-then, fresh, same, Arrives, led, Free}
-use Rattle.running.proofs.Looping.{with, Body, none-loop, some-loop}
+use Rattle.running.proofs.Reaching.{RunsOn, held-runs}
+use Rattle.running.proofs.Arriving.{Free}
+use Rattle.running.proofs.Looping.{turning}
+use Rattle.running.proofs.Stretches.{Stretch, no-stretch, state-stretch, then-stretch, stretch-is, loop-stretch, none-stretch}
 use Rattle.duration.specs.Ticks.{runTicks}
 use Rattle.duration.proofs.Ticks.{run-none, run-state, run-loop}
 use Rattle.duration.proofs.Sound.{Sound, Whole, first, no-next, rest, body, behind}
 
 -- The running rule passes from line i to line j in as many ticks as the lines take, and runs on meanwhile.
 unfoldable pub Passes : List ℕ → ℕ → ℕ → Type 0
-Passes p i j =
-    (cs : List Counter) → length cs ≡ 4 → Free p i j cs → (r : Run) → At i cs r → (n left : ℕ) → n + left ≡ 400 → j - i ≤ left
-    → Arrives p RunsOn (runDue p left n r) (runTicks p i j) j cs n (j - i)
+Passes p i j = (cs : List Counter) → length cs ≡ 4 → Free p i j cs → Stretch p RunsOn i (runTicks p i j) j cs (j - i)
 
 module _ (p : List ℕ) (e : ℕ) (s : Sound p e) where
-  module _ (i j : ℕ) (le : j ≤ e) (lt : i < j) (w : Whole p i j) (cs : List Counter) (four : length cs ≡ 4) (frees : Free p i j cs)
-      (r : Run) (a : At i cs r) (n left : ℕ) (sum : n + left ≡ 400) (enough : j - i ≤ left) where
+  module _ (i j : ℕ) (le : j ≤ e) (lt : i < j) (w : Whole p i j) (cs : List Counter) (four : length cs ≡ 4) (frees : Free p i j cs) where
     Goal : Type 0
-    Goal = Arrives p RunsOn (runDue p left n r) (runTicks p i j) j cs n (j - i)
+    Goal = Stretch p RunsOn i (runTicks p i j) j cs (j - i)
 
     in-program : j ≤ 200
     in-program = omega (arith, s .inProgram)
@@ -49,16 +46,10 @@ module _ (p : List ℕ) (e : ℕ) (s : Sound p e) where
     state-passes : (o t : ℕ) → lineAt p i ≡ State o t → Passes p (i + 1) j → Goal
     unfolding Goal Passes
     state-passes o t is on =
-        let above = s .timed i o t (omega arith) is in
-        let here : lineAt p (r .line) ≡ State o t = ap (lineAt p) (a .line) ∙ is in
-        let far : r .line < 199 = omega (arith, a .line, s .inProgram) in
-        let q = on cs four (later (i + 1) (omega arith)) (atLine (r .line + 1) (waiting 1 (withOutputs o r))) (record {
-          on = a .on;
-          line = ap (λ l. l + 1) (a .line);
-          counters = a .counters;
-        }) 0 400 (omega arith) (omega arith) in
-        led RunsOn (state-waits p RunsOn r o t here above (a .on) far (held-runs t (withOutputs o r) (a .on)) left n) q (run-state p i j lt in-program is)
-        (fresh (omega (arith, few-sum (q .few))))
+        stretch-is p (sym (run-state p i j lt in-program is)) refl (omega arith)
+        (then-stretch p RunsOn
+        (state-stretch p RunsOn i o t cs is (s .timed i o t (omega arith) is) (omega (arith, s .inProgram)) (λ r on. held-runs t (withOutputs o r) on))
+        (on cs four (later (i + 1) (omega arith))))
 
     module _ (c x : ℕ) (is : lineAt p i ≡ For c x) where
       abbrev nx : ℕ
@@ -87,7 +78,7 @@ module _ (p : List ℕ) (e : ℕ) (s : Sound p e) where
           omega (arith, z, s .nests .nested i k (omega arith) (omega arith) (omega arith) to)
 
       -- so the loops inside it have other counters, and these are free
-      others : (m : ℕ) → Free p (i + 1) nx (with p Runs i c x nx is pairing near cs four own ticks m)
+      others : (m : ℕ) → Free p (i + 1) nx (turning i c cs m)
       unfolding Free
       others m k d y from to at =
           let a = counter-ranged p i c x is in
@@ -95,31 +86,27 @@ module _ (p : List ℕ) (e : ℕ) (s : Sound p e) where
           let other : d - 1 ≢ c - 1 = λ z. not-own k d y from to at (omega (arith, z, a .0, b .0)) in
           getD-set-other cs (c - 1) (d - 1) (record { count = m; line = i }) free other ∙ frees k d y (omega arith) (omega (arith, inside)) at
 
-      inner-passes : Passes p (i + 1) nx → Body p Runs i c x nx is pairing near cs four own ticks
+      inner-passes : Passes p (i + 1) nx → (m : ℕ)
+          → Stretch p RunsOn (i + 1) ticks nx (turning i c cs m) (nx - (i + 1))
       unfolding Passes
       inner-passes inner m = inner _ (length-set cs (c - 1) (record { count = m; line = i }) ∙ four) (others m)
 
       -- the loop is left, in its count times the ticks of its body
       Loop : Type 0
-      Loop = Arrives p RunsOn (runDue p left n r) (x * ticks) (nx + 1) cs n (nx + 1 - i)
+      Loop = Stretch p RunsOn i (x * ticks) (nx + 1) cs (nx + 1 - i)
 
       looped : Passes p (i + 1) nx → (m : ℕ) → x ≡ m → Loop
       unfolding Loop
-      looped inner zero z =
-          none-loop p Runs i c x nx is pairing near cs four own ticks r a n left sum (omega (arith, inside)) z
+      looped inner zero z = none-stretch p Runs i c x nx is pairing near cs four own ticks z
       looped inner (suc m) z =
-          some-loop p Runs i c x nx is pairing near cs four own ticks r a n left sum (omega (arith, inside)) m z
-          (s .moves i c x (omega arith) is (omega arith)) (inner-passes inner)
+          loop-stretch p Runs i c x nx is pairing near cs four own ticks (omega arith) (s .moves i c x (omega arith) is (omega arith)) (inner-passes inner)
 
       after-loop : Loop → Passes p (nx + 1) j → Goal
       unfolding Loop Goal Passes
       after-loop b on =
           let longer = pairing .notBefore in
-          let q = on cs four (later (nx + 1) (omega arith)) (b .run) (b .at) (b .lines) (b .left) (b .budget)
-          (omega (arith, b .budget, sum, few-sum (b .few))) in
-          let all : nx + 1 - i + (j - (nx + 1)) ≡ j - i = omega (arith, inside) in
-          let few = few-then {last = q .lines} all (b .few) (q .few) in
-          led RunsOn (b .reaches) q (run-loop p i j lt in-program is) (rw (run-loop p i j lt in-program is) few)
+          stretch-is p (sym (run-loop p i j lt in-program is)) refl (omega (arith, inside))
+          (then-stretch p RunsOn b (on cs four (later (nx + 1) (omega arith))))
 
       for-passes : Passes p (i + 1) nx → Passes p (nx + 1) j → Goal
       for-passes inner on = after-loop (looped inner x refl) on
@@ -128,31 +115,22 @@ module _ (p : List ℕ) (e : ℕ) (s : Sound p e) where
   module _ (i j : ℕ) (le : j ≤ e) (lt : i < j) (w : Whole p i j) (all : (k m : ℕ) → i < k → m ≤ j → k ≤ m → Whole p k m → Passes p k m) where
     line-passes : (l : Line) → lineAt p i ≡ l → Passes p i j
     unfolding Passes Goal
-    line-passes (State o t) is cs four frees r a n left sum enough =
-        state-passes i j le lt w cs four frees r a n left sum enough o t is
+    line-passes (State o t) is cs four frees =
+        state-passes i j le lt w cs four frees o t is
         (all (i + 1) j (omega arith) (omega arith) (omega arith) (rest p e s i j w lt le (λ c x z. state-no-for (sym is ∙ z))))
-    line-passes (For c x) is cs four frees r a n left sum enough =
+    line-passes (For c x) is cs four frees =
         let near = first p e s (omega arith) is .notBefore in
         let far = w .fors i c x (omega arith) lt is in
-        for-passes i j le lt w cs four frees r a n left sum enough c x is
+        for-passes i j le lt w cs four frees c x is
         (all (i + 1) (nextOf p i) (omega arith) (omega arith) near (body p e s i j w lt le is))
         (all (nextOf p i + 1) j (omega arith) (omega arith) (omega arith) (behind p e s i j w lt le is))
-    line-passes (Next c) is cs four frees r a n left sum enough = absurd (no-next p e s i j w lt le is)
-    line-passes Bad is cs four frees r a n left sum enough = absurd (s .good i (omega arith) is)
+    line-passes (Next c) is cs four frees = absurd (no-next p e s i j w lt le is)
+    line-passes Bad is cs four frees = absurd (s .good i (omega arith) is)
 
   none-passes-on : (i j : ℕ) → i ≡ j → Passes p i j
   unfolding Passes
-  none-passes-on i j is cs four frees r a n left sum enough =
-      let z = run-none p i j (omega arith) in
-      record {
-        run = r;
-        lines = n;
-        left = left;
-        budget = sum;
-        few = same z (omega arith);
-        reaches = rw z (at-once p RunsOn refl);
-        at = record { on = a .on; line = a .line ∙ is; counters = a .counters };
-      }
+  none-passes-on i j is cs four frees =
+      stretch-is p (sym (run-none p i j (omega arith))) is (omega arith) (no-stretch p RunsOn i cs)
 
   -- every run of lines that holds its loops whole, by the number of its lines
   pub passes : (f i j : ℕ) → j ≤ i + f → i ≤ j → j ≤ e → Whole p i j → Passes p i j

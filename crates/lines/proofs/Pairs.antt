@@ -13,7 +13,7 @@ use Rattle.lines.specs.declared.Line.the-variants.{State, For, Next, Bad
 use Rattle.lines.specs.Program.{lineAt, nextAfter, FirstFrom}
 use Rattle.lines.proofs.Places.{line-ranged}
 use Rattle.lines.proofs.Search.{next-first, first-next, none-next, next-none}
-use Rattle.lines.specs.Line.{isNext, forCounter}
+use Rattle.lines.specs.Line.{isFor, isNext, forCounter}
 use Rattle.lines.specs.Loops.{nextFor, nextOf, counterAt}
 
 -- ---- kinds of lines
@@ -21,14 +21,11 @@ use Rattle.lines.specs.Loops.{nextFor, nextOf, counterAt}
 pub for-no-next : {c x d : ℕ} → For c x ≡ Next d → ⊥
 for-no-next e = false≢true (ap isNext e)
 
+pub state-no-next : {o t c : ℕ} → State o t ≡ Next c → ⊥
+state-no-next e = false≢true (ap isNext e)
+
 pub state-no-for : {o t c x : ℕ} → State o t ≡ For c x → ⊥
 state-no-for e = false≢true (ap isFor e)
-  where
-    isFor : Line → Bool
-    isFor (State o t) = false
-    isFor (For c x) = true
-    isFor (Next c) = false
-    isFor Bad = false
 
 pub same-next : {c d : ℕ} → Next c ≡ Next d → c ≡ d
 same-next e = ap named e

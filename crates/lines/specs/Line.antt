@@ -47,6 +47,12 @@ isEnd (For counter count) = false
 isEnd (Next counter) = false
 isEnd Bad = false
 
+abbrev pub isFor : Line → Bool
+isFor (State outputs time) = false
+isFor (For counter count) = true
+isFor (Next counter) = false
+isFor Bad = false
+
 abbrev pub isNext : Line → Bool
 isNext (State outputs time) = false
 isNext (For counter count) = false

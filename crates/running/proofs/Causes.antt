@@ -20,27 +20,27 @@ use Rattle.running.proofs.Ways.{onward-ways, state-ways, for-ways, next
 
 pub data Way (p : List ℕ) (r : Run) (s : Step) : Type 0 where
   isHeld : {o t : ℕ} → lineAt p (r .line) ≡ State o t → 0 < t → s ≡ holds (waiting t (withOutputs o r)) → Way p r s
-  hasEnded : (e : ℕ) (u : Run) → Cause p r e u → s ≡ ends e u → Way p r s
+  hasEnded : (e : ℕ) (u : Run) → ((n : ℕ) → Cause p r n e u) → s ≡ ends e u → Way p r s
   goesOn : isForOrNext (lineAt p (r .line)) ≡ true → s .how ≡ GoesOn → Way p r s
 
 module _ (p : List ℕ) (r : Run) where
   onward-way : isForOrNext (lineAt p (r .line)) ≡ true → (v : Run) → Way p r (onward v)
-  onward-way loop v = onward-ways (Way p r) v (λ _. goesOn loop refl) (λ le. hasEnded 9 v (past refl le) refl)
+  onward-way loop v = onward-ways (Way p r) v (λ _. goesOn loop refl) (λ le. hasEnded 9 v (λ n. past refl le) refl)
 
   line-way : (l : Line) → lineAt p (r .line) ≡ l → Way p r (runLine p l r)
   line-way (State o t) is =
       state-ways (Way p r) p r o t (λ above. isHeld is above refl)
-      (λ none. hasEnded 11 (withOutputs o r) (done refl (is ∙ ap (State o) none) refl) refl)
+      (λ none. hasEnded 11 (withOutputs o r) (λ n. done refl (is ∙ ap (State o) none) refl) refl)
   line-way (For c x) is =
       for-ways (Way p r) p r c x
-      (λ above. hasEnded 6 r (busy refl is above refl) refl)
-      (λ _ none. hasEnded 7 r (alone refl is (λ lt. next-none p c (r .line) lt none) refl) refl)
+      (λ above. hasEnded 6 r (λ n. busy refl is above refl) refl)
+      (λ _ none. hasEnded 7 r (λ n. alone refl is (λ lt. next-none p c (r .line) lt none) refl) refl)
       (λ _ _ _. onward-way (ap isForOrNext is) _)
       (λ _ _ _. onward-way (ap isForOrNext is) _)
   line-way (Next c) is =
-      next-ways (Way p r) p r c (λ none. hasEnded 8 r (loose refl is none refl) refl) (λ _. goesOn (ap isForOrNext is) refl)
+      next-ways (Way p r) p r c (λ none. hasEnded 8 r (λ n. loose refl is none refl) refl) (λ _. goesOn (ap isForOrNext is) refl)
       (λ _. onward-way (ap isForOrNext is) _)
-  line-way Bad is = bad-way (Way p r) p r (hasEnded 14 r (bad refl is refl) refl)
+  line-way Bad is = bad-way (Way p r) p r (hasEnded 14 r (λ n. bad refl is refl) refl)
 
   pub step-way : Way p r (step p r)
   unfolding step
@@ -50,11 +50,21 @@ module _ (p : List ℕ) (r : Run) where
   other-end : {e : ℕ} (u : Run) → e < 15 → e ≢ 11 → e ≢ 14 → Ended p e u
   other-end u lt a b = record { known = omega arith; well = λ z. absurd (a z); badly = λ z. absurd (b z) }
 
-  pub cause-says : {e : ℕ} {u : Run} → Cause p r e u → Ended p e u
+  pub cause-says : {n e : ℕ} {u : Run} → Cause p r n e u → Ended p e u
   cause-says (busy e _ _ _) = other-end _ (omega arith) (λ z. omega arith) (λ z. omega arith)
   cause-says (alone e _ _ _) = other-end _ (omega arith) (λ z. omega arith) (λ z. omega arith)
   cause-says (loose e _ _ _) = other-end _ (omega arith) (λ z. omega arith) (λ z. omega arith)
   cause-says (past e _) = other-end _ (omega arith) (λ z. omega arith) (λ z. omega arith)
   cause-says (done e is u) = rw u (record { known = omega arith; well = λ z. is; badly = λ z. absurd (omega arith) })
-  cause-says (over e _ _) = other-end _ (omega arith) (λ z. omega arith) (λ z. omega arith)
+  cause-says (over e _ _ _) = other-end _ (omega arith) (λ z. omega arith) (λ z. omega arith)
   cause-says (bad e is u) = rw u (record { known = omega arith; well = λ z. absurd (omega arith); badly = λ z. is })
+
+  -- 013 comes behind 400 lines of its call, at a For or a Next, and nowhere else
+  pub over-so : {n : ℕ} {u : Run} → Cause p r n 13 u → (n ≡ 400) × (isForOrNext (lineAt p (r .line)) ≡ true)
+  over-so (busy e _ _ _) = absurd (omega arith)
+  over-so (alone e _ _ _) = absurd (omega arith)
+  over-so (loose e _ _ _) = absurd (omega arith)
+  over-so (past e _) = absurd (omega arith)
+  over-so (done e _ _) = absurd (omega arith)
+  over-so (over _ all loop _) = (all, loop)
+  over-so (bad e _ _) = absurd (omega arith)

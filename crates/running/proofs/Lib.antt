@@ -10,6 +10,7 @@ pub mod Outputs
 pub mod Reaching
 pub mod Arriving
 pub mod Looping
+pub mod Stretches
 pub mod Moments
 pub mod Coming
 pub mod Examples

@@ -26,6 +26,10 @@ once b = omega arith
 again : (m b : ℕ) → suc (suc m) * b ≡ b + 0 + suc m * b
 again m b = simp suc-mul (omega arith)
 
+-- the counters while the loop of counter c, whose For is on line k, has m turns left
+abbrev pub turning : ℕ → ℕ → List Counter → ℕ → List Counter
+turning k c cs m = set cs (c - 1) (record { count = m; line = k })
+
 -- The loop of counter c from the For on line k to its Next on line nx, neither of them the last line. Where it begins the counters are cs, and its own
 -- is free. Q holds of every tick.
 module _ (p : List ℕ) (Q : Ran → Type 0) (k c x nx : ℕ) (is : lineAt p k ≡ For c x) (pairing : FirstFrom p c (k + 1) nx) (near : nx < 199)
@@ -41,8 +45,8 @@ module _ (p : List ℕ) (Q : Ran → Type 0) (k c x nx : ℕ) (is : lineAt p k �
   held m = record { count = m; line = k }
 
   -- the counters while m turns are left
-  abbrev pub with : ℕ → List Counter
-  with m = set cs (c - 1) (held m)
+  abbrev with : ℕ → List Counter
+  with m = turning k c cs m
 
   in-list : c - 1 < length cs
   in-list = let a = counter-ranged p k c x is in omega (arith, a .0, a .1, four)

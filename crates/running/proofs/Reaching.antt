@@ -36,6 +36,10 @@ module _ (p : List ℕ) where
   after-ticks zero x = refl
   after-ticks (suc n) x = after-ticks n (tick p (x .run))
 
+  -- the tick after n of demand 3's
+  pub tick-after : (n : ℕ) (x : Ran) → tick p (ticks p n (x .run)) ≡ after p (n + 1) x
+  tick-after n x = ap (tick p) (sym (after-ticks n x)) ∙ sym (after-one-more n x)
+
   -- A program ends at one tick.
   pub one-number : (m n : ℕ) {e f : ℕ} (x : Ran) → EndsAfter p m e x → EndsAfter p n f x → m ≡ n
   one-number m n x a b = go (ltb m n) refl (ltb n m) refl
@@ -79,6 +83,10 @@ module _ (p : List ℕ) where
           let is : m ≡ s + (m - s) = omega arith in
           let at : after p (s + (m - s)) x ≡ after p (m - s) y = after-add p s (m - s) x ∙ ap (after p (m - s)) (a .there) in
           subst (λ n. P n (after p n x)) (sym is) (subst (P (s + (m - s))) (sym at) (b .before (m - s) (omega arith)))
+
+  -- what holds meanwhile, said in another way
+  pub reaches-as : {P Q : ℕ → Ran → Type 0} {x y : Ran} {t : ℕ} → ((m : ℕ) (z : Ran) → m < t → P m z → Q m z) → Reaches p P x t y → Reaches p Q x t y
+  reaches-as {x = x} f a = record { there = a .there; before = λ m lt. f m (after p m x) lt (a .before m lt) }
 
   -- a tick more
   pub by-tick : (P : ℕ → Ran → Type 0) {x y : Ran} {t : ℕ} → P 0 x → Reaches p (λ m. P (suc m)) (tick p (x .run)) t y → Reaches p P x (suc t) y

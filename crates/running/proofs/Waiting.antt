@@ -36,7 +36,7 @@ due-at p r on le = rw (on, le-ltb 1 (r .wait) le)
 
 -- ---- ticks one after the other
 
-tick-off : (p : List ℕ) (r : Run) → r .on ≡ false → tick p r ≡ rests 0 r
+pub tick-off : (p : List ℕ) (r : Run) → r .on ≡ false → tick p r ≡ rests 0 r
 unfolding tick
 tick-off p r e = rw e
 

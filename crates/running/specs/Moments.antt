@@ -1,7 +1,7 @@
 -- Nobody has to believe this before 02, item 9, asks for it: no theorem speaks of it yet.
 -- The moments of a run: the runs at which a line falls due, one behind the other by the running rules. And what they tell of an end.
 -- 02, item 9: "for 006 the line of the For that holds the counter, [...] for 007 the counter sought, for 013 the State line last held, if any".
-use Prim.Native.Nat.{ℕ, _+_, _≤_, _<_}
+use Prim.Native.Nat.{ℕ, suc, _+_, _≤_, _<_}
 use mathlib.Core.Path.{_≡_}
 use mathlib.Core.Bool.{true}
 use mathlib.Core.List.{List}
@@ -30,10 +30,10 @@ pub data Through (p : List ℕ) (P : Run → Type 0) (b : Run) : Run → Type 0 
 abbrev pub Moment : List ℕ → Run → Run → Type 0
 Moment p b s = Through p (λ _. Unit {0}) b s
 
--- it falls due in the same call as b: For and Next lines alone are run between them
-pub data Within (p : List ℕ) (b : Run) : Run → Type 0 where
-  here : {s : Run} → b ≡ s → Within p b s
-  on : {r s : Run} → Within p b r → step p r .how ≡ GoesOn → step p r .run ≡ s → Within p b s
+-- it falls due in the same call as b, n lines later, each of them a For or a Next
+pub data Within (p : List ℕ) (b : Run) : ℕ → Run → Type 0 where
+  here : {s : Run} → b ≡ s → Within p b 0 s
+  on : {n : ℕ} {r s : Run} → Within p b n r → step p r .how ≡ GoesOn → step p r .run ≡ s → Within p b (suc n) s
 
 -- ---- which For took a counter
 
@@ -56,33 +56,34 @@ pub record Took (p : List ℕ) (b : Run) (c : ℕ) (s : Run) : Type 0 where
 
 -- none was, or that of the moment h, and For and Next lines alone were run since
 pub data HeldLast (p : List ℕ) (b s : Run) : Type 0 where
-  none : Within p b s → HeldLast p b s
-  line : {o t : ℕ} (h : Run) → Moment p b h → lineAt p (h .line) ≡ State o t → 0 < t → Within p (behind o h) s → HeldLast p b s
+  none : {n : ℕ} → Within p b n s → HeldLast p b s
+  line : {o t n : ℕ} (h : Run) → Moment p b h → lineAt p (h .line) ≡ State o t → 0 < t → Within p (behind o h) n s → HeldLast p b s
 
 -- ---- why a program ends
 
--- At the moment s the program ends with event e, and leaves the run u, its loops being freed then.
-pub data Cause (p : List ℕ) (s : Run) (e : ℕ) (u : Run) : Type 0 where
+-- At the moment s, n lines of its call having been run, the program ends with event e, and leaves the run u, its loops being freed then.
+pub data Cause (p : List ℕ) (s : Run) (n e : ℕ) (u : Run) : Type 0 where
   -- "For C: busy counter, event 006; else no Next C on any later line, 007"
-  busy : {c x : ℕ} → e ≡ 6 → lineAt p (s .line) ≡ For c x → 0 < counter s c .count → u ≡ s → Cause p s e u
-  alone : {c x : ℕ} → e ≡ 7 → lineAt p (s .line) ≡ For c x → (s .line < 200 → NoneFrom p c (s .line + 1)) → u ≡ s → Cause p s e u
+  busy : {c x : ℕ} → e ≡ 6 → lineAt p (s .line) ≡ For c x → 0 < counter s c .count → u ≡ s → Cause p s n e u
+  alone : {c x : ℕ} → e ≡ 7 → lineAt p (s .line) ≡ For c x → (s .line < 200 → NoneFrom p c (s .line + 1)) → u ≡ s → Cause p s n e u
   -- "Next C: counter not busy, 008"
-  loose : {c : ℕ} → e ≡ 8 → lineAt p (s .line) ≡ Next c → counter s c .count ≡ 0 → u ≡ s → Cause p s e u
+  loose : {c : ℕ} → e ≡ 8 → lineAt p (s .line) ≡ Next c → counter s c .count ≡ 0 → u ≡ s → Cause p s n e u
   -- "Going on past 199: event 009"
-  past : e ≡ 9 → 199 ≤ u .line → Cause p s e u
+  past : e ≡ 9 → 199 ≤ u .line → Cause p s n e u
   -- "State, time 0: set outputs, stop, event 011."
-  done : {o : ℕ} → e ≡ 11 → lineAt p (s .line) ≡ State o 0 → u ≡ withOutputs o s → Cause p s e u
+  done : {o : ℕ} → e ≡ 11 → lineAt p (s .line) ≡ State o 0 → u ≡ withOutputs o s → Cause p s n e u
   -- "Were a 401st due, the program stops there with event 013"
-  over : e ≡ 13 → isForOrNext (lineAt p (s .line)) ≡ true → u ≡ s → Cause p s e u
+  over : e ≡ 13 → n ≡ 400 → isForOrNext (lineAt p (s .line)) ≡ true → u ≡ s → Cause p s n e u
   -- "Running a Bad line stops with event 014 at that line."
-  bad : e ≡ 14 → lineAt p (s .line) ≡ Bad → u ≡ s → Cause p s e u
+  bad : e ≡ 14 → lineAt p (s .line) ≡ Bad → u ≡ s → Cause p s n e u
 
 -- The call in which r falls due ends the program with event e, for a cause, and leaves the run v.
 pub record Stops (p : List ℕ) (r : Run) (e : ℕ) (v : Run) : Type 0 where
   pub last : Run
-  pub within : Within p r last
+  pub lines : ℕ
+  pub within : Within p r lines last
   pub left : Run
-  pub cause : Cause p last e left
+  pub cause : Cause p last lines e left
   pub freed : v ≡ stopped left
 
 -- The run v holds the State line of the moment `at`, with w ticks still to wait.

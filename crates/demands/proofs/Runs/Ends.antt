@@ -24,7 +24,7 @@ use Rattle.running.proofs.Steps.{bad-line, bad-due}
 use Rattle.duration.specs.Report.{report}
 use Rattle.running.specs.Ticking as Ticking
 use Rattle.running.specs.Ticking.{EndsAfter}
-use Rattle.running.proofs.Reaching.{after-ticks, after-one-more}
+use Rattle.running.proofs.Reaching.{after-ticks, tick-after}
 use Rattle.duration.proofs.Taking.{takes}
 use Rattle.controller.specs.Controller.{Areas}
 use Rattle.controller.specs.Refusals.{Call}
@@ -226,8 +226,7 @@ module _ (c : Course) (so : Started c) where
         let by = ends-by-the-rules c so (on-until (omega arith)) a t in
         let next-is : tick (programOf c) (ruled c)
         ≡ Ticking.after (programOf c) n x =
-        ap (tick (programOf c)) (sym (after-ticks (programOf c) (count c) x)) ∙ sym (after-one-more (programOf c) (count c) x)
-        ∙ ap (λ j. Ticking.after (programOf c) j x) last in (
+        tick-after (programOf c) (count c) x ∙ ap (λ j. Ticking.after (programOf c) j x) last in (
           by .1 ∙ ap (λ (r : Ran). if eqb (r .event) 0 then told (now c) .event else r .event) next-is ∙ rw (lasts .event),
           ap (λ (r : Run). r .on) (by .0) ∙ ap (λ (r : Ran). r .run .on) next-is ∙ lasts .off,
         )
