@@ -49,7 +49,7 @@ from pointwise_edits import Known, pointwise, premise_edits
 STATEMENTS = 'demands'
 # modules of it that take long to prove, on which no other stands: in the copy they are a crate of their own, `computed`
 SLOW_GROUP, SLOW = 'Applies', ('Worked', 'Applied', 'PutToUse')
-OUTSIDE = {'io', 'os', 'libc'}  # what stands on these is a program, or part of one
+OUTSIDE = {'io', 'os', 'libc', 'streams'}  # what stands on these is a program, or part of one
 SORTS = ('plain', 'pointwise', 'premise')
 PLAN = '140,120,50'  # edits of each sort
 

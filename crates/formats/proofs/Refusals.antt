@@ -67,6 +67,14 @@ told-at [] r i e all fails = absurd (not-passed (sym fails))
 told-at (c ∷ cs) r zero e all fails = rw fails
 told-at (c ∷ cs) r (suc i) e all fails = rw (all 0 (omega arith)) (told-at cs r i e (λ j lt. all (suc j) (omega arith)) fails)
 
+-- where nothing is refused, all checks pass
+pub passed-all : {A : Type 0} (cs : List Check) (a : A) {b : A} → inOrder cs (passed a) ≡ passed b → Before cs (length cs)
+passed-all cs a is = go (told cs (passed a))
+  where
+    go : Told cs (passed a) (inOrder cs (passed a)) → Before cs (length cs)
+    go (refuses i e lt all fails so) = absurd (not-passed (sym so ∙ is))
+    go (passes all so) = all
+
 -- behind the last check there is none
 beyond : (cs : List Check) (i : ℕ) → length cs ≤ i → checkAt cs i ≡ passed tt
 beyond [] i le = refl
@@ -154,3 +162,23 @@ module _ {S : Type 0} {place number : S → ℕ} {Says : S → Type 0} {cs : Lis
                 up : (i : ℕ) (u : Bool) → ltb i (length cs) ≡ u → checkAt cs i ≡ passed tt
                 up i true u = all i (ltb-true i (length cs) u)
                 up i false u = beyond cs i (ltb-false i (length cs) u)
+
+-- Both ways: a number is told exactly if it is that of the first sentence.
+pub told-exactly : {S : Type 0} {place number : S → ℕ} {Says : S → Type 0} {cs : List Check} → Worded place number Says cs → {A : Type 0} (a : A) (e : ℕ)
+    → (inOrder cs (passed a) ≡ refused e → FirstSaid place number Says e) × (FirstSaid place number Says e → inOrder cs (passed a) ≡ refused e)
+told-exactly w a e = (told-first w a e, λ f. first-told w a (f .sentence) (f .first) ∙ ap refused (f .numbered))
+
+-- ---- a check whose value is not asked, as one of a list
+
+abbrev pub forgotten : {A : Type 0} → Res A → Check
+forgotten (refused e) = refused e
+forgotten (passed a) = passed tt
+
+pub forgotten-then : {A B : Type 0} (x : Res A) (y : Res B) → (x >> y) ≡ (forgotten x >> y)
+unfolding _>>_
+forgotten-then (refused e) y = refl
+forgotten-then (passed a) y = refl
+
+pub forgotten-refuses : {A : Type 0} (x : Res A) (e : ℕ) → (forgotten x ≡ refused e → x ≡ refused e) × (x ≡ refused e → forgotten x ≡ refused e)
+forgotten-refuses (refused i) e = (λ p. cc, λ p. cc)
+forgotten-refuses (passed a) e = (λ p. absurd (not-passed (sym p)), λ p. absurd (not-passed (sym p)))

@@ -14,7 +14,8 @@ use Rattle.running.specs.declared.Run.{Run}
 use Rattle.running.specs.declared.Ran.{Ran}
 use Rattle.running.specs.Running.{begun, withOutputs, waiting, stopped, onward, isForOrNext, stops, rests, follow, step, runDue, most, start, tick}
 use Rattle.running.specs.Ticking.{after, EndsAfter}
-use Rattle.running.specs.Moments.{behind, goes, waits, first, later, Moment, Within, here, on, Cause, over, Stops, Holding, StopsAfter, past199, behindIt}
+use Rattle.running.specs.Moments.{behind, goes, waits, first, later, Moment, Within, here, on, Cause, byLine}
+use Rattle.running.specs.Moments.{over, Stops, Holding, StopsAfter, past199, behindIt}
 use Rattle.running.proofs.Waiting.{tick-before, tick-off, due-at}
 use Rattle.running.proofs.Invariant.{Going, step-going}
 use Rattle.running.proofs.Causes.{Way, isHeld, hasEnded, goesOn, step-way}
@@ -26,23 +27,23 @@ use Rattle.running.proofs.Reaching.{after-one-more}
 -- what the call in which r falls due did: the State line of s is held, or the program ended at s
 data Came (p : List ℕ) (r : Run) (x : Ran) : Type 0 where
   held : {o t i : ℕ} (s : Run) (n : ℕ) → Within p r i s → lineAt p (s .line) ≡ State o t → 0 < t → x ≡ rests n (waiting t (withOutputs o s)) → Came p r x
-  ended : {i : ℕ} (s u : Run) (e n : ℕ) → Within p r i s → Cause p s i e u → x ≡ stops e n u → Came p r x
+  ended : {i : ℕ} (s u : Run) (e n : ℕ) → Within p r i s → i ≤ 400 → Cause p s i e u → x ≡ stops e n u → Came p r x
 
 module _ (p : List ℕ) (b : Run) where
   -- the line that is due at r, after n lines of its call; behind it comes what `go` makes of the next
-  follows : {i : ℕ} (r : Run) (n : ℕ) (go : Run → Ran) → Within p b i r → Way p r (step p r)
+  follows : {i : ℕ} (r : Run) (n : ℕ) (go : Run → Ran) → i ≤ 400 → (isForOrNext (lineAt p (r .line)) ≡ true → i < 400) → Within p b i r → Way p r (step p r)
       → (isForOrNext (lineAt p (r .line)) ≡ true → (s : Run) → Within p b (suc i) s → Came p b (go s))
       → Came p b (follow (step p r .how) n (step p r .run) go)
-  follows r n go w (isHeld state above is) k = rw is (held r n w state above refl)
-  follows r n go w (hasEnded e u why is) k = rw is (ended r u e n w (why _) refl)
-  follows r n go w (goesOn loop how) k = rw how (k loop (step p r .run) (on w how refl))
+  follows r n go le few w (isHeld state above is) k = rw is (held r n w state above refl)
+  follows r n go le few w (hasEnded e u why is) k = rw is (ended r u e n w le (byLine why is few) refl)
+  follows r n go le few w (goesOn loop how) k = rw how (k loop (step p r .run) (on w how refl))
 
   due-came : (left i n : ℕ) (r : Run) → i + left ≡ 400 → Within p b i r → Came p b (runDue p left n r)
   unfolding runDue
   due-came zero i n r sum w =
-      if-case (Came p b) (isForOrNext (lineAt p (r .line))) (λ loop. ended r r 13 n w (over refl (omega arith) loop refl) refl)
-      (λ plain. follows r n _ w (step-way p r) (λ loop. absurd (true≢false (sym loop ∙ plain))))
-  due-came (suc left) i n r sum w = follows r _ _ w (step-way p r) (λ _ s way. due-came left (suc i) _ s (omega arith) way)
+      if-case (Came p b) (isForOrNext (lineAt p (r .line))) (λ loop. ended r r 13 n w (omega arith) (over refl (omega arith) loop refl) refl)
+      (λ plain. follows r n _ (omega arith) (λ loop. absurd (true≢false (sym loop ∙ plain))) w (step-way p r) (λ loop. absurd (true≢false (sym loop ∙ plain))))
+  due-came (suc left) i n r sum w = follows r _ _ (omega arith) (λ _. omega arith) w (step-way p r) (λ _ s way. due-came left (suc i) _ s (omega arith) way)
 
 -- ---- between calls
 
@@ -105,16 +106,17 @@ module _ (p : List ℕ) (b : Run) (begins : b .on ≡ true) where
         most = omega arith;
         is = ap (λ (y : Ran). y .run) is;
       })
-  came-stands r x m (ended s u e n w why is) = isOff (ap (λ (y : Ran). y .run .on) is)
+  came-stands r x m (ended s u e n w le why is) = isOff (ap (λ (y : Ran). y .run .on) is)
 
   -- and for what cause one ends the program
   came-stops : (r : Run) (x : Ran) → Moment p b r → x .run .on ≡ false → Came p r x → Stops p r (x .event) (x .run)
   came-stops r x m off (held s n w state above is) =
       absurd (true≢false (sym (moment-on p b s begins (within-moment p b r s m w)) ∙ ap (λ (y : Ran). y .run .on) (sym is) ∙ off))
-  came-stops r x m off (ended {i = i} s u e n w why is) =
+  came-stops r x m off (ended {i = i} s u e n w le why is) =
       record {
         last = s;
         lines = i;
+        few = le;
         within = w;
         left = u;
         cause = subst (λ f. Cause p s i f u) (ap (λ (y : Ran). y .event) (sym is)) why;

@@ -19,8 +19,7 @@ use Rattle.running.specs.declared.Ran.{Ran}
 use Rattle.running.specs.Running.{allFree, stopped, holds, ends, onward, runLine, isForOrNext}
 use Rattle.running.specs.Running.{counted, stops, rests, isHeld, follow, step, runDue, most, start, tick}
 use Rattle.running.specs.Ended.{Ended}
-use Rattle.running.specs.Moments.{past, over}
-use Rattle.running.proofs.Causes.{Way, isHeld as held, hasEnded as ended, goesOn as goes, step-way, cause-says}
+use Rattle.running.proofs.Causes.{Way, isHeld as held, hasEnded as ended, goesOn as goes, step-way, other-end, line-says}
 use Rattle.running.proofs.Ways.{onward-ways, state-ways, for-ways, next-ways, bad-way}
 
 -- ---- at most 400 lines
@@ -153,7 +152,7 @@ ends-so p e r h f is = let same : e ≡ f = cc in rw same at h
 
 way-ends : (p : List ℕ) (r : Run) (s : Step) → Way p r s → EndsSo p s
 way-ends p r s (held _ _ is) = subst (EndsSo p) (sym is) (λ e h. absurd (not-ends h refl))
-way-ends p r s (ended e u why is) = subst (EndsSo p) (sym is) (ends-so p e u (cause-says p r (why 0)))
+way-ends p r s (ended e u why is) = subst (EndsSo p) (sym is) (ends-so p e u (line-says p r why))
 way-ends p r s (goes loop how) = λ e h. absurd (not-ends′ h how)
 
 step-ends : (p : List ℕ) (r : Run) → EndsSo p (step p r)
@@ -161,7 +160,7 @@ step-ends p r = way-ends p r (step p r) (step-way p r)
 
 onward-ends : (p : List ℕ) (r : Run) → EndsSo p (onward r)
 onward-ends p r =
-    onward-ways (EndsSo p) r (λ _ e is. absurd (not-ends′ is refl)) (λ le. ends-so p 9 r (cause-says p r {n = 0} (past refl le)))
+    onward-ways (EndsSo p) r (λ _ e is. absurd (not-ends′ is refl)) (λ _. ends-so p 9 r (other-end p r r (omega arith) (λ z. omega arith) (λ z. omega arith)))
 
 -- a call
 abbrev pub EndsAsItSays : List ℕ → Ran → Type 0
@@ -184,7 +183,7 @@ due-ends-so : (p : List ℕ) (left n : ℕ) (r : Run) → EndsAsItSays p (runDue
 unfolding runDue
 due-ends-so p zero n r =
     if-case (EndsAsItSays p) (isForOrNext (lineAt p (r .line)))
-    (λ loop. stopped-ends p 13 n r (cause-says p r {n = 400} (over refl refl loop refl)))
+    (λ _. stopped-ends p 13 n r (other-end p r r (omega arith) (λ z. omega arith) (λ z. omega arith)))
     (λ _. follow-ends p (step p r .how) n (step p r .run) _ (step-ends p r) (λ s. no-end p n s))
 due-ends-so p (suc left) n r = follow-ends p (step p r .how) _ (step p r .run) _ (step-ends p r) (λ s. due-ends-so p left _ s)
 

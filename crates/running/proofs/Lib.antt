@@ -13,4 +13,6 @@ pub mod Looping
 pub mod Stretches
 pub mod Moments
 pub mod Coming
+pub mod OneStop
+pub mod Aside
 pub mod Examples

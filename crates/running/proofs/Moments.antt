@@ -1,4 +1,4 @@
--- Laws of the moments of a run: which State line was held last, and which For took a busy counter.
+-- Laws of the moments of a run: which For took a busy counter.
 -- Assumes nothing.
 use Prim.Native.Nat.{ℕ, _-_, _<_}
 use native.Mathlib.Omega.{arith}
@@ -21,19 +21,8 @@ use Rattle.running.specs.declared.Run.{Run}
 use Rattle.running.specs.declared.How.the-variants.{GoesOn}
 use Rattle.running.specs.declared.Step.{Step}
 use Rattle.running.specs.Running.{free, counter, begun, runLine, step}
-use Rattle.running.specs.Moments.{FollowedBy, goes, waits, Through, first, later, Moment, here, on, Took, HeldLast, none, line}
+use Rattle.running.specs.Moments.{FollowedBy, goes, waits, Through, first, later, Moment, Took}
 use Rattle.running.proofs.Ways.{onward-ways, state-ways, for-ways, next-ways, bad-way}
-
--- ---- which State line was held last
-
-pub held-last : (p : List ℕ) (b s : Run) → Moment p b s → HeldLast p b s
-held-last p b s (first is u) = none (here is)
-held-last p b s (later {r = r} m (goes how is) u) = go (held-last p b r m)
-  where
-    go : HeldLast p b r → HeldLast p b s
-    go (none w) = none (on w how is)
-    go (line h way state above w) = line h way state above (on w how is)
-held-last p b s (later {r = r} m (waits state above lt is) u) = line r m state above (here is)
 
 -- ---- what a line does with the counters
 
@@ -181,3 +170,7 @@ took p k o s m =
 pub busy-line : (p : List ℕ) (k o : ℕ) (s : Run) → Moment p (begun k o) s → (c : ℕ) → OneToFour c → 0 < counter s c .count
     → (x : ℕ) × (lineAt p (counter s c .line) ≡ For c x)
 busy-line p k o s m c q busy = let t = took p k o s m c q busy in (t .count, ap (lineAt p) (at-last (t .since) .line) ∙ t .line)
+
+-- There is one: the For whose line stands in the counter.
+pub took-line : {p : List ℕ} {b s : Run} {c : ℕ} (t : Took p b c s) → t .at .line ≡ counter s c .line
+took-line t = sym (at-last (t .since) .line)

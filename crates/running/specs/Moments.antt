@@ -1,6 +1,7 @@
 -- Nobody has to believe this before 02, item 9, asks for it: no theorem speaks of it yet.
 -- The moments of a run: the runs at which a line falls due, one behind the other by the running rules. And what they tell of an end.
--- 02, item 9: "for 006 the line of the For that holds the counter, [...] for 007 the counter sought, for 013 the State line last held, if any".
+-- 02, item 9: "for 006 the line of the For that holds the counter, [...] for 007 the counter sought, for 013 the State line last held, if any", which is the
+-- line that the run held before the tick that ended it.
 use Prim.Native.Nat.{ℕ, suc, _+_, _≤_, _<_}
 use mathlib.Core.Path.{_≡_}
 use mathlib.Core.Bool.{true}
@@ -9,7 +10,7 @@ use Rattle.lines.specs.declared.Line.the-variants.{State, For, Next, Bad}
 use Rattle.lines.specs.Program.{lineAt, NoneFrom}
 use Rattle.running.specs.declared.Run.{Run}
 use Rattle.running.specs.declared.How.the-variants.{GoesOn}
-use Rattle.running.specs.Running.{counter, atLine, withOutputs, waiting, stopped, isForOrNext, step}
+use Rattle.running.specs.Running.{counter, atLine, withOutputs, waiting, stopped, ends, isForOrNext, step}
 
 -- ---- one behind the other
 
@@ -52,35 +53,33 @@ pub record Took (p : List ℕ) (b : Run) (c : ℕ) (s : Run) : Type 0 where
   pub takes : step p at .how ≡ GoesOn
   pub since : Through p (HeldFrom c (at .line)) (step p at .run) s
 
--- ---- which State line was held last
-
--- none was, or that of the moment h, and For and Next lines alone were run since
-pub data HeldLast (p : List ℕ) (b s : Run) : Type 0 where
-  none : {n : ℕ} → Within p b n s → HeldLast p b s
-  line : {o t n : ℕ} (h : Run) → Moment p b h → lineAt p (h .line) ≡ State o t → 0 < t → Within p (behind o h) n s → HeldLast p b s
-
 -- ---- why a program ends
 
--- At the moment s, n lines of its call having been run, the program ends with event e, and leaves the run u, its loops being freed then.
-pub data Cause (p : List ℕ) (s : Run) (n e : ℕ) (u : Run) : Type 0 where
+-- The line of the moment s ends the program with event e and leaves the run u, its loops not being freed yet.
+pub data LineEnds (p : List ℕ) (s : Run) (e : ℕ) (u : Run) : Type 0 where
   -- "For C: busy counter, event 006; else no Next C on any later line, 007"
-  busy : {c x : ℕ} → e ≡ 6 → lineAt p (s .line) ≡ For c x → 0 < counter s c .count → u ≡ s → Cause p s n e u
-  alone : {c x : ℕ} → e ≡ 7 → lineAt p (s .line) ≡ For c x → (s .line < 200 → NoneFrom p c (s .line + 1)) → u ≡ s → Cause p s n e u
+  busy : {c x : ℕ} → e ≡ 6 → lineAt p (s .line) ≡ For c x → 0 < counter s c .count → u ≡ s → LineEnds p s e u
+  alone : {c x : ℕ} → e ≡ 7 → lineAt p (s .line) ≡ For c x → counter s c .count ≡ 0 → (s .line < 200 → NoneFrom p c (s .line + 1)) → u ≡ s → LineEnds p s e u
   -- "Next C: counter not busy, 008"
-  loose : {c : ℕ} → e ≡ 8 → lineAt p (s .line) ≡ Next c → counter s c .count ≡ 0 → u ≡ s → Cause p s n e u
+  loose : {c : ℕ} → e ≡ 8 → lineAt p (s .line) ≡ Next c → counter s c .count ≡ 0 → u ≡ s → LineEnds p s e u
   -- "Going on past 199: event 009"
-  past : e ≡ 9 → 199 ≤ u .line → Cause p s n e u
+  past : e ≡ 9 → isForOrNext (lineAt p (s .line)) ≡ true → 199 ≤ u .line → LineEnds p s e u
   -- "State, time 0: set outputs, stop, event 011."
-  done : {o : ℕ} → e ≡ 11 → lineAt p (s .line) ≡ State o 0 → u ≡ withOutputs o s → Cause p s n e u
-  -- "Were a 401st due, the program stops there with event 013"
-  over : e ≡ 13 → n ≡ 400 → isForOrNext (lineAt p (s .line)) ≡ true → u ≡ s → Cause p s n e u
+  done : {o : ℕ} → e ≡ 11 → lineAt p (s .line) ≡ State o 0 → u ≡ withOutputs o s → LineEnds p s e u
   -- "Running a Bad line stops with event 014 at that line."
-  bad : e ≡ 14 → lineAt p (s .line) ≡ Bad → u ≡ s → Cause p s n e u
+  bad : e ≡ 14 → lineAt p (s .line) ≡ Bad → u ≡ s → LineEnds p s e u
+
+-- So the program ends at the moment s, behind n lines of its call: by the rule its line ends it, and is not a 401st For or Next;
+-- "Were a 401st due, the program stops there with event 013".
+pub data Cause (p : List ℕ) (s : Run) (n e : ℕ) (u : Run) : Type 0 where
+  byLine : LineEnds p s e u → step p s ≡ ends e u → (isForOrNext (lineAt p (s .line)) ≡ true → n < 400) → Cause p s n e u
+  over : e ≡ 13 → n ≡ 400 → isForOrNext (lineAt p (s .line)) ≡ true → u ≡ s → Cause p s n e u
 
 -- The call in which r falls due ends the program with event e, for a cause, and leaves the run v.
 pub record Stops (p : List ℕ) (r : Run) (e : ℕ) (v : Run) : Type 0 where
   pub last : Run
   pub lines : ℕ
+  pub few : lines ≤ 400
   pub within : Within p r lines last
   pub left : Run
   pub cause : Cause p last lines e left
