@@ -1,12 +1,12 @@
 -- Calls one after the other: what they leave, and what waits of their replies.
 -- Assumes nothing.
-use mathlib.Core.Bool.{true, not, true≢false}
+use mathlib.Core.Bool.{Bool, true, false, not, true≢false}
 use mathlib.Core.List.{List, [], _∷_, _++_, append-nil, map-append}
-use mathlib.Core.Path.{_≡_, refl, sym, ap, _∙_}
-use Prim.Native.Nat.{ℕ, suc, _+_, _≤_, _<_}
+use mathlib.Core.Path.{_≡_, refl, sym, ap, _∙_, subst}
+use Prim.Native.Nat.{ℕ, zero, suc, _+_, _≤_, _<_}
 use native.Mathlib.Omega.{arith}
-use lib.ListN.{length, getD, take, drop, take-append-drop}
-use lib.Seq.{take-nil, take-all, take-suc}
+use lib.ListN.{length, getD, take, drop, take-append-drop, length-append}
+use lib.Seq.{length-take-le, take-nil, take-all, take-suc}
 use borrow.Author.Tests.{ne-eqb}
 use Rattle.controller.specs.Controller.{areas, fresh}
 use Rattle.controller.specs.Refusals.{Call, powerOn, byte, tick, press}
@@ -19,7 +19,7 @@ use Rattle.streams.specs.declared.Output.{Output}
 use Rattle.streams.specs.Gathering.{gathered, waitsAfter, Puts}
 use Rattle.streams.proofs.Gathering.{nothing-waits}
 use Rattle.console.specs.Inputs.{Held, holding, made, heldBy, replyOf, heldAfter, replies, waitsAfterAll}
-use Rattle.console.specs.Inputs.{Does, Takes, callOf, callsOf, Feeds, Turns, unpowered, begins, Ran}
+use Rattle.console.specs.Inputs.{Does, Takes, callOf, callsOf, Feeds, Hears, Turns, unpowered, begins, Ran, begun, turned, Ends}
 use Rattle.console.specs.declared.Next.{Next}
 
 -- ---- lists of calls
@@ -143,28 +143,125 @@ module _ (input : List ℕ) (i : ℕ) {h h₁ : Held} {o o₁ : Output} {block b
 
 -- ---- turns
 
+-- the first bytes of some are some
+some-there : (n : ℕ) (l : List ℕ) → n ≤ length l → (n ≡ 0 → ⊥) → 0 < length (take n l)
+some-there n l le ne = rw (length-take-le n l le) (above-zero n ne)
+  where
+    above-zero : (k : ℕ) → (k ≡ 0 → ⊥) → 0 < k
+    above-zero zero none = absurd (none refl)
+    above-zero (suc k) none = omega arith
+
+-- what is nothing with more behind it is nothing
+none-of : (l m : List ℕ) → l ++ m ≡ [] → l ≡ []
+none-of [] m e = refl
+none-of (x ∷ l) m e = absurd (omega (arith, ap length e))
+
+-- a read that gave no byte
+pub nothing-heard : (n : ℕ) (input : List ℕ) (h : Held) (o : Output) (block : List ℕ) (r : Next) → n ≡ 0 → r .output ≡ o → r .on ≡ false
+    → Hears n input h o block r h block
+nothing-heard n input h o block r none output off = record {
+  fed = [];
+  left = take n input;
+  whole = refl;
+  does = rw output (does-nothing h o o block refl (λ e. e));
+  more = λ on. absurd (true≢false (sym on ∙ off));
+  ends = λ _ _. none;
+}
+
+-- and one that gave some
+pub some-heard : {n : ℕ} {input : List ℕ} {h h′ : Held} {o : Output} {block block′ : List ℕ} {r : Next} → n ≤ length input → (n ≡ 0 → ⊥)
+    → Feeds (take n input) h o block r h′ block′ → Hears n input h o block r h′ block′
+some-heard {n} {input} le some f = record {
+  fed = f .fed;
+  left = f .left;
+  whole = f .whole;
+  does = f .does;
+  more = λ on.
+      let all : f .fed ≡ take n input = sym (append-nil (f .fed)) ∙ ap (λ l. f .fed ++ l) (sym (f .all on)) ∙ f .whole in
+      (f .all on, rw all (some-there n input le some));
+  ends = λ off opens. absurd (true≢false (sym opens ∙ f .ends off));
+}
+
 -- what was gathered has gone out
 module _ (h : Held) (o e : Output) (block : List ℕ) (empty : (e .used ≡ 0) × (e .open ≡ true → o .open ≡ true)) where
-  -- and nothing came
-  pub nothing-came : (r : Next) → r .output ≡ e → Turns h o block r h block
-  nothing-came r output = record { fed = []; does = rw output (does-nothing h _ e block (empty .0) (empty .1)) }
-
-  -- and these came
-  pub some-came : {input : List ℕ} {r : Next} {h′ : Held} {block′ : List ℕ} → Feeds input h e block r h′ block′ → Turns h o block r h′ block′
-  some-came f = record {
-    fed = f .fed;
-    does = does-then [] (callsOf (f .fed)) refl (does-nothing h _ e block (empty .0) (empty .1)) (f .does);
+  -- and the output failed
+  pub nothing-came : (r : Next) → r .output ≡ e → r .on ≡ false → Turns h o block r h block
+  nothing-came r output off = record {
+    empty = e;
+    gone = empty .0;
+    failed = empty .1;
+    fed = [];
+    does = rw output (does-nothing h e e block refl (λ x. x));
+    more = λ on. absurd (true≢false (sym on ∙ off));
+    ends = λ _ _. refl;
   }
 
--- a turn more
-pub turn-more : {b b′ : SwitchBox} {p s l p′ s′ l′ : List ℕ} {o : Output} {block block′ : List ℕ} {r : Next}
-    → Ran b p s l → Turns (holding b p s l) o block r (holding b′ p′ s′ l′) block′ → Ran b′ p′ s′ l′
-turn-more ran t = record {
-  fed = ran .fed ++ t .fed;
-  held =
-      t .does .held ∙ ap (heldAfter (callsOf (t .fed))) (ran .held) ∙ sym (held-then (callsOf (ran .fed)) (callsOf (t .fed)) begins)
-      ∙ ap (λ ks. heldAfter ks begins) (sym (map-append callOf (ran .fed) (t .fed)));
-}
+  -- and these came
+  pub some-came : {n : ℕ} {input : List ℕ} {r : Next} {h′ : Held} {block′ : List ℕ} → Hears n input h e block r h′ block′ → Turns h o block r h′ block′
+  some-came {n} {input} x = record {
+    empty = e;
+    gone = empty .0;
+    failed = empty .1;
+    fed = x .fed;
+    does = x .does;
+    more = λ on. x .more on .1;
+    ends = λ off opens. none-of (x .fed) (x .left) (x .whole ∙ ap (λ k. take k input) (x .ends off opens));
+  }
+
+-- a turn leaves what its bytes leave
+turn-held : (fed : List ℕ) {h h′ : Held} {o : Output} {block block′ : List ℕ} {r : Next} → h ≡ heldAfter (callsOf fed) begins
+    → (t : Turns h o block r h′ block′) → h′ ≡ heldAfter (callsOf (fed ++ t .fed)) begins
+turn-held fed held t =
+    t .does .held ∙ ap (heldAfter (callsOf (t .fed))) held ∙ sym (held-then (callsOf fed) (callsOf (t .fed)) begins)
+    ∙ ap (λ ks. heldAfter ks begins) (sym (map-append callOf fed (t .fed)))
+
+-- ---- turns one after the other
+
+-- what a test says of what it tested
+pub is-on : (on : Bool) → not on ≡ false → on ≡ true
+is-on true e = refl
+is-on false e = absurd (true≢false e)
+
+pub is-off : (on : Bool) → not on ≡ true → on ≡ false
+is-off true e = absurd (true≢false (sym e))
+is-off false e = refl
+
+-- after some, of which each had a byte: n at least
+pub record Turned (n : ℕ) (h : Held) (o : Output) (block : List ℕ) : Type 0 where
+  pub fed : List ℕ
+  pub ran : Ran fed h o block true
+  pub held : h ≡ heldAfter (callsOf fed) begins
+  pub many : n ≤ length fed
+
+-- after none
+pub none-turned : {h : Held} (o : Output) (block : List ℕ) → h ≡ begins → (o .used ≡ 0) × (o .open ≡ true) → Turned 0 h o block
+unfolding heldAfter
+none-turned o block e new =
+    record { fed = []; ran = subst (λ x. Ran [] x o block true) (sym e) (begun o block (new .0) (new .1)); held = e; many = omega arith }
+
+module _ {n : ℕ} {h h′ : Held} {o : Output} {block block′ : List ℕ} {r : Next} (x : Turned n h o block) (t : Turns h o block r h′ block′) where
+  -- one more, after which there may be more
+  pub turn-more : r .on ≡ true → (m : ℕ) → m ≤ n + 1 → Turned m h′ (r .output) block′
+  turn-more on m le = record {
+    fed = x .fed ++ t .fed;
+    ran = subst (λ y. Ran (x .fed ++ t .fed) h′ (r .output) block′ y) on (turned (x .ran) t);
+    held = turn-held (x .fed) (x .held) t;
+    many = omega (arith, x .many, t .more on, length-append (x .fed) (t .fed));
+  }
+
+  -- and after which there is no more
+  pub turn-ends : r .on ≡ false → Ends r h′ block′
+  turn-ends off = record {
+    fed = x .fed ++ t .fed;
+    ran = turned (x .ran) t;
+    held = turn-held (x .fed) (x .held) t;
+    last = λ on. absurd (true≢false (sym on ∙ off));
+  }
+
+-- so many that no more are made
+pub turns-end : {n : ℕ} {h : Held} {o : Output} {block : List ℕ} (r : Next) → r .output ≡ o → r .on ≡ true → 18446744073709551615 ≤ n
+    → Turned n h o block → Ends r h block
+turns-end r output on le x = record { fed = x .fed; ran = rw (output, on) (x .ran); held = x .held; last = λ _. omega (arith, le, x .many) }
 
 -- ---- the beginning
 
@@ -172,11 +269,6 @@ turn-more ran t = record {
 pub power-on-begins : {p s l : List ℕ} {r : Returned} → after r (areas p s l []) ≡ made powerOn unpowered → holding (r .next) p s l ≡ begins
 unfolding begins
 power-on-begins e = ap (heldBy powerOn unpowered) e
-
--- no byte has come yet
-pub ran-nothing : {b : SwitchBox} {p s l : List ℕ} → holding b p s l ≡ begins → Ran b p s l
-unfolding heldAfter
-ran-nothing e = record { fed = []; held = e }
 
 -- it has the invariant
 pub begins-kept : {b : SwitchBox} {p s l : List ℕ} → holding b p s l ≡ begins → Invariant (b .controller)
