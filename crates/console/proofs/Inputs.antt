@@ -1,13 +1,13 @@
 -- Calls one after the other: what they leave, and what waits of their replies.
 -- Assumes nothing.
 use mathlib.Core.Bool.{Bool, true, false, not, true≢false}
-use mathlib.Core.List.{List, [], _∷_, _++_, append-nil, map-append}
+use mathlib.Core.List.{List, [], _∷_, _++_, append-nil, map-append, flatten}
 use mathlib.Core.Path.{_≡_, refl, sym, ap, _∙_, subst}
 use Prim.Native.Nat.{ℕ, zero, suc, _+_, _≤_, _<_}
 use native.Mathlib.Omega.{arith}
 use lib.ListN.{length, getD, take, drop, take-append-drop, length-append}
 use lib.Seq.{length-take-le, take-nil, take-all, take-suc}
-use borrow.Author.Tests.{ne-eqb}
+use borrow.Author.Tests.{ne-eqb, le-leb}
 use Rattle.controller.specs.Controller.{areas, fresh}
 use Rattle.controller.specs.Refusals.{Call, powerOn, byte, tick, press}
 use Rattle.controller.specs.Invariant.{Invariant}
@@ -43,28 +43,64 @@ unfolding waitsAfterAll
 waits-then size waited [] qs = refl
 waits-then size waited (p ∷ ps) qs = waits-then size (waitsAfter size waited p) ps qs
 
+-- ---- how much waits
+
+-- how many bytes some replies and then more have
+length-then : (ps qs : List (List ℕ)) → length (flatten (ps ++ qs)) ≡ length (flatten ps) + length (flatten qs)
+unfolding flatten
+length-then [] qs = omega arith
+length-then (p ∷ ps) qs =
+    omega (arith, length-then ps qs, length-append p (flatten (ps ++ qs)), length-append p (flatten ps))
+
+follows : (size : ℕ) (waited reply : List ℕ) → length waited + length reply ≤ size → waitsAfter size waited reply ≡ waited ++ reply
+unfolding waitsAfter
+follows size waited reply fits = rw (le-leb (length waited + length reply) size fits)
+
+-- replies that all fit all wait
+all-wait : (size : ℕ) (waited : List ℕ) (rs : List (List ℕ)) → length waited + length (flatten rs) ≤ size
+    → length (waitsAfterAll size waited rs) ≡ length waited + length (flatten rs)
+unfolding waitsAfterAll flatten
+all-wait size waited [] fits = omega arith
+all-wait size waited (r ∷ rs) fits =
+    let both = length-append r (flatten rs) in
+    let with = length-append waited r in
+    let more = all-wait size (waited ++ r) rs (omega (arith, both, with, fits)) in
+    rw (follows size waited r (omega (arith, both, fits))) (omega (arith, more, both, with))
+
 -- ---- what they do
 
 -- where there is no call, nothing is done
-pub does-nothing : (h : Held) (o o′ : Output) (block : List ℕ) → o′ .used ≡ o .used → (o′ .open ≡ true → o .open ≡ true) → Does [] h o block h o′ block
+pub does-nothing : (h : Held) (o : Output) (block : List ℕ) → Does [] h o block h o block
 unfolding heldAfter replies waitsAfterAll
-does-nothing h o o′ block used failed = record { held = refl; waits = ap (λ (n : ℕ). take n block) used; failed = failed }
+does-nothing h o block = record { held = refl; waits = refl; failed = λ f. f; stays = λ _. refl }
 
 -- some calls and then more
-pub does-then : (ks ls : List Call) {h h₁ h₂ : Held} {o o₁ o₂ : Output} {block block₁ block₂ : List ℕ} → length block₁ ≡ length block
+does-then : (ks ls : List Call) {h h₁ h₂ : Held} {o o₁ o₂ : Output} {block block₁ block₂ : List ℕ} → length block₁ ≡ length block
     → Does ks h o block h₁ o₁ block₁ → Does ls h₁ o₁ block₁ h₂ o₂ block₂ → Does (ks ++ ls) h o block h₂ o₂ block₂
-does-then ks ls {h} size d e = record {
+does-then ks ls {h} {h₁} {o = o} {o₁} {block = block} {block₁} size d e = record {
   held = e .held ∙ ap (heldAfter ls) (d .held) ∙ sym (held-then ks ls h);
   waits = rw (replies-then ks ls h, waits-then) (rw (size, d .waits, d .held) at (e .waits));
   failed = λ f. d .failed (e .failed f);
+  stays = λ fits.
+      let both = ap (λ rs. length (flatten rs)) (replies-then ks ls h) ∙ length-then (replies ks h) (replies ls (heldAfter ks h)) in
+      let first : length (gathered o block) + length (flatten (replies ks h)) ≤ length block = omega (arith, both, fits) in
+      let waiting = ap length (d .waits) ∙ all-wait (length block) (gathered o block) (replies ks h) first in
+      let same = ap (λ x. length (flatten (replies ls x))) (d .held) in
+      let second : length (gathered o₁ block₁) + length (flatten (replies ls h₁)) ≤ length block₁ = omega (arith, both, fits, waiting, same, size) in
+      e .stays second ∙ d .stays first;
 }
 
 -- one call, from what it left and what waits of its reply
 does-one : (k : Call) {h h′ : Held} {o o′ : Output} {block block′ : List ℕ} → h′ ≡ heldBy k h (made k h)
     → gathered o′ block′ ≡ waitsAfter (length block) (gathered o block) (replyOf (made k h)) → (o′ .open ≡ true → o .open ≡ true)
-    → Does (k ∷ []) h o block h′ o′ block′
-unfolding heldAfter replies waitsAfterAll
-does-one k held waits failed = record { held = held; waits = waits; failed = failed }
+    → (length (gathered o block) + length (replyOf (made k h)) ≤ length block → o′ .open ≡ o .open) → Does (k ∷ []) h o block h′ o′ block′
+unfolding heldAfter replies waitsAfterAll flatten
+does-one k {h} held waits failed stays = record {
+  held = held;
+  waits = waits;
+  failed = failed;
+  stays = λ fits. stays (omega (arith, fits, length-append (replyOf (made k h)) []));
+}
 
 -- a call with no reply, after which the output is as it was
 silent-takes : (k : Call) {h : Held} (o : Output) (block : List ℕ) {p s l : List ℕ} (r : Returned) (n : Next)
@@ -81,7 +117,7 @@ module _ (b : SwitchBox) (p s l : List ℕ) (o : Output) (block : List ℕ) wher
       → Does (byte x ∷ []) (holding b p s l) o block (holding (r .next) p′ s′ l′) o′ block′
   byte-does x p′ s′ l′ y′ r e puts =
       let h : Held = holding b p s l in
-      does-one (byte x) (ap (heldBy (byte x) h) e) (rw (ap replyOf e) at (puts .waits)) (puts .failed)
+      does-one (byte x) (ap (heldBy (byte x) h) e) (rw (ap replyOf e) at (puts .waits)) (puts .failed) (rw (ap replyOf e) at (puts .stays))
 
   -- a tick, after which the output is as it was
   pub tick-takes : (l′ : List ℕ) (r : Returned) (n : Next) → after r (areas p [] l′ []) ≡ made tick (holding b p s l)
@@ -89,7 +125,7 @@ module _ (b : SwitchBox) (p s l : List ℕ) (o : Output) (block : List ℕ) wher
   tick-takes l′ r n e =
       let h : Held = holding b p s l in
       let none : replyOf (made tick h) ≡ [] = sym (ap replyOf e) ∙ take-nil (r .written) in
-      silent-takes tick o block r n (does-one tick (ap (heldBy tick h) e) (rw none (sym (nothing-waits (o .used) block))) (λ f. f))
+      silent-takes tick o block r n (does-one tick (ap (heldBy tick h) e) (rw none (sym (nothing-waits (o .used) block))) (λ f. f) (λ _. refl))
 
   -- a press likewise
   pub press-takes : (k : ℕ) (l′ : List ℕ) (r : Returned) (n : Next) → after r (areas p [] l′ []) ≡ made (press k) (holding b p s l)
@@ -97,7 +133,7 @@ module _ (b : SwitchBox) (p s l : List ℕ) (o : Output) (block : List ℕ) wher
   press-takes k l′ r n e =
       let h : Held = holding b p s l in
       let none : replyOf (made (press k) h) ≡ [] = sym (ap replyOf e) ∙ take-nil (r .written) in
-      silent-takes (press k) o block r n (does-one (press k) (ap (heldBy (press k) h) e) (rw none (sym (nothing-waits (o .used) block))) (λ f. f))
+      silent-takes (press k) o block r n (does-one (press k) (ap (heldBy (press k) h) e) (rw none (sym (nothing-waits (o .used) block))) (λ f. f) (λ _. refl))
 
 -- ---- which call a byte of input is
 
@@ -163,7 +199,7 @@ nothing-heard n input h o block r none output off = record {
   fed = [];
   left = take n input;
   whole = refl;
-  does = rw output (does-nothing h o o block refl (λ e. e));
+  does = rw output (does-nothing h o block);
   more = λ on. absurd (true≢false (sym on ∙ off));
   ends = λ _ _. none;
 }
@@ -191,7 +227,7 @@ module _ (h : Held) (o e : Output) (block : List ℕ) (empty : (e .used ≡ 0) �
     gone = empty .0;
     failed = empty .1;
     fed = [];
-    does = rw output (does-nothing h e e block refl (λ x. x));
+    does = rw output (does-nothing h e block);
     more = λ on. absurd (true≢false (sym on ∙ off));
     ends = λ _ _. refl;
   }

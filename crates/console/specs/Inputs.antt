@@ -1,9 +1,9 @@
 -- What the program bench does with its standard input, byte by byte.
 -- 01: "The program `bench` starts from an all-zero saved copy and a 24-byte log. Of its standard input, byte 1 is a tick, 2 and 3 are buttons 1 and 2,
 -- the rest goes to the wire. It prints the replies and nothing else." 02, item 8: "`bench` and the worked points take 32 bytes for 24".
-use Prim.Native.Nat.{ℕ, _≤_, _<_}
+use Prim.Native.Nat.{ℕ, _+_, _≤_, _<_}
 use mathlib.Core.Bool.{Bool, true, false}
-use mathlib.Core.List.{List, [], _∷_, _++_, map}
+use mathlib.Core.List.{List, [], _∷_, _++_, map, flatten}
 use mathlib.Core.Path.{_≡_}
 use lib.Dec.{eqb}
 use lib.ListN.{length, take, replicate}
@@ -80,11 +80,13 @@ unfoldable pub waitsAfterAll : ℕ → List ℕ → List (List ℕ) → List ℕ
 waitsAfterAll size waited [] = waited
 waitsAfterAll size waited (reply ∷ more) = waitsAfterAll size (waitsAfter size waited reply) more
 
--- "It prints the replies and nothing else": what calls do to what is held and to the output in its block; no output that failed is open again
+-- "It prints the replies and nothing else": what calls do to what is held and to the output in its block; no output that failed is open again, and none
+-- fails as long as all the replies fit behind what waits
 pub record Does (ks : List Call) (h : Held) (o : Output) (block : List ℕ) (h′ : Held) (o′ : Output) (block′ : List ℕ) : Type 0 where
   pub held : h′ ≡ heldAfter ks h
   pub waits : gathered o′ block′ ≡ waitsAfterAll (length block) (gathered o block) (replies ks h)
   pub failed : o′ .open ≡ true → o .open ≡ true
+  pub stays : length (gathered o block) + length (flatten (replies ks h)) ≤ length block → o′ .open ≡ o .open
 
 -- what one call does; there is no more to do only where the output failed
 pub record Takes (k : Call) (h : Held) (o : Output) (block : List ℕ) (r : Next) (h′ : Held) (block′ : List ℕ) : Type 0 where
