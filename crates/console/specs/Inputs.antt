@@ -134,14 +134,15 @@ unpowered = record { controller = fresh 0; program = replicate programSize 0; sa
 unfoldable pub begins : Held
 begins = heldBy powerOn unpowered (made powerOn unpowered)
 
--- turns one after the other since, each with what the one before it left of the box, its areas, the output and its block; and all that came
+-- turns one after the other since, as long as there may be more: all that came, and what the last left of the box and its areas, of the output and its
+-- block, and whether there may be more. Each goes on with what the one before it left; the first has an output of which nothing waits
 pub data Ran : List ℕ → Held → Output → List ℕ → Bool → Type 0 where
   begun : (o : Output) (block : List ℕ) → o .used ≡ 0 → o .open ≡ true → Ran [] begins o block true
   turned : {fed : List ℕ} {h h′ : Held} {o : Output} {r : Next} {block block′ : List ℕ}
       → Ran fed h o block true → (t : Turns h o block r h′ block′) → Ran (fed ++ t .fed) h′ (r .output) block′ (r .on)
 
--- what they end with: the box and its areas are as the bytes that came left them. The last turn says that there is no more, but for an input of more
--- bytes than there is
+-- what they end with: the box and its areas are as the bytes that came left them. Either the last turn says that there is no more, or so many bytes came
+-- as no input has
 pub record Ends (r : Next) (h : Held) (block : List ℕ) : Type 0 where
   pub fed : List ℕ
   pub ran : Ran fed h (r .output) block (r .on)

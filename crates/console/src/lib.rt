@@ -120,6 +120,7 @@ fn feed(
 }
 
 // What a read gave is fed to the box: the first n bytes of the buffer. None are the end of the input.
+// It stands apart from the read, whose bytes no contract names, so that its own can name them.
 fn heard(
     b: SwitchBox,
     output: Output,
