@@ -1,9 +1,9 @@
 -- What the program bench does with its standard input, byte by byte.
 -- 01: "The program `bench` starts from an all-zero saved copy and a 24-byte log. Of its standard input, byte 1 is a tick, 2 and 3 are buttons 1 and 2,
 -- the rest goes to the wire. It prints the replies and nothing else." 02, item 8: "`bench` and the worked points take 32 bytes for 24".
-use Prim.Native.Nat.{ℕ}
-use mathlib.Core.Bool.{true, false}
-use mathlib.Core.List.{List, [], _∷_, _++_, map}
+use Prim.Native.Nat.{ℕ, _+_, _≤_, _<_}
+use mathlib.Core.Bool.{Bool, true, false}
+use mathlib.Core.List.{List, [], _∷_, _++_, map, flatten}
 use mathlib.Core.Path.{_≡_}
 use lib.Dec.{eqb}
 use lib.ListN.{length, take, replicate}
@@ -80,11 +80,13 @@ unfoldable pub waitsAfterAll : ℕ → List ℕ → List (List ℕ) → List ℕ
 waitsAfterAll size waited [] = waited
 waitsAfterAll size waited (reply ∷ more) = waitsAfterAll size (waitsAfter size waited reply) more
 
--- "It prints the replies and nothing else": what calls do to what is held and to the output in its block; no output that failed is open again
+-- "It prints the replies and nothing else": what calls do to what is held and to the output in its block; no output that failed is open again, and none
+-- fails as long as all the replies fit behind what waits
 pub record Does (ks : List Call) (h : Held) (o : Output) (block : List ℕ) (h′ : Held) (o′ : Output) (block′ : List ℕ) : Type 0 where
   pub held : h′ ≡ heldAfter ks h
   pub waits : gathered o′ block′ ≡ waitsAfterAll (length block) (gathered o block) (replies ks h)
   pub failed : o′ .open ≡ true → o .open ≡ true
+  pub stays : length (gathered o block) + length (flatten (replies ks h)) ≤ length block → o′ .open ≡ o .open
 
 -- what one call does; there is no more to do only where the output failed
 pub record Takes (k : Call) (h : Held) (o : Output) (block : List ℕ) (r : Next) (h′ : Held) (block′ : List ℕ) : Type 0 where
@@ -102,10 +104,26 @@ pub record Feeds (input : List ℕ) (h : Held) (o : Output) (block : List ℕ) (
   pub ends : r .on ≡ false → r .output .open ≡ false
   pub all : r .on ≡ true → left ≡ []
 
--- what a turn does: nothing waits of what was gathered before, since it went out, and some bytes came; which, is in no contract
-pub record Turns (h : Held) (o : Output) (block : List ℕ) (r : Next) (h′ : Held) (block′ : List ℕ) : Type 0 where
+-- what a read that gave n bytes, at the start of the buffer, does: they are fed. There may be more only where all of them were, and there was one; there
+-- is no more only where there was none, which is the end of the input, or where the output failed
+pub record Hears (n : ℕ) (input : List ℕ) (h : Held) (o : Output) (block : List ℕ) (r : Next) (h′ : Held) (block′ : List ℕ) : Type 0 where
   pub fed : List ℕ
-  pub does : Does (callsOf fed) h (record { used = 0; «open» = o .open }) block h′ (r .output) block′
+  pub left : List ℕ
+  pub whole : fed ++ left ≡ take n input
+  pub does : Does (callsOf fed) h o block h′ (r .output) block′
+  pub more : r .on ≡ true → (left ≡ []) × (0 < length fed)
+  pub ends : r .on ≡ false → r .output .open ≡ true → n ≡ 0
+
+-- what a turn does: what was gathered before has gone out, so that nothing waits of it, and then some bytes come; which, is in no contract, since what a
+-- read gives is in none. There may be more only where some came, and there is no more only where none came or the output failed
+pub record Turns (h : Held) (o : Output) (block : List ℕ) (r : Next) (h′ : Held) (block′ : List ℕ) : Type 0 where
+  pub empty : Output
+  pub gone : empty .used ≡ 0
+  pub failed : empty .open ≡ true → o .open ≡ true
+  pub fed : List ℕ
+  pub does : Does (callsOf fed) h empty block h′ (r .output) block′
+  pub more : r .on ≡ true → 0 < length fed
+  pub ends : r .on ≡ false → r .output .open ≡ true → fed ≡ []
 
 -- ---- from the beginning
 
@@ -116,7 +134,17 @@ unpowered = record { controller = fresh 0; program = replicate programSize 0; sa
 unfoldable pub begins : Held
 begins = heldBy powerOn unpowered (made powerOn unpowered)
 
--- some bytes of input have come since: the box and its areas are as they left them
-pub record Ran (b : SwitchBox) (program saved log : List ℕ) : Type 0 where
+-- turns one after the other since, as long as there may be more: all that came, and what the last left of the box and its areas, of the output and its
+-- block, and whether there may be more. Each goes on with what the one before it left; the first has an output of which nothing waits
+pub data Ran : List ℕ → Held → Output → List ℕ → Bool → Type 0 where
+  begun : (o : Output) (block : List ℕ) → o .used ≡ 0 → o .open ≡ true → Ran [] begins o block true
+  turned : {fed : List ℕ} {h h′ : Held} {o : Output} {r : Next} {block block′ : List ℕ}
+      → Ran fed h o block true → (t : Turns h o block r h′ block′) → Ran (fed ++ t .fed) h′ (r .output) block′ (r .on)
+
+-- what they end with: the box and its areas are as the bytes that came left them. Either the last turn says that there is no more, or so many bytes came
+-- as no input has
+pub record Ends (r : Next) (h : Held) (block : List ℕ) : Type 0 where
   pub fed : List ℕ
-  pub held : holding b program saved log ≡ heldAfter (callsOf fed) begins
+  pub ran : Ran fed h (r .output) block (r .on)
+  pub held : h ≡ heldAfter (callsOf fed) begins
+  pub last : r .on ≡ true → 18446744073709551615 ≤ length fed

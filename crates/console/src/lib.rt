@@ -4,10 +4,11 @@
 // went out, is in none, since C's have none.
 ghost use mathlib.Core.Bool.{true};
 ghost use mathlib.Core.Path.{_≡_};
+ghost use Prim.Native.Nat.{_≤_};
+ghost use lib.ListN.{length};
 ghost use Rattle.controller.specs.Invariant.{Invariant};
 ghost use Rattle.controller.specs.Refusals.{byte};
-ghost use Rattle.calls.specs.declared.SwitchBox.{SwitchBox};
-ghost use Rattle.console.specs.Inputs.{holding, callOf, Takes, Feeds, Turns, Ran, begins};
+ghost use Rattle.console.specs.Inputs.{holding, callOf, Takes, Feeds, Hears, Turns, Ends, begins};
 use calls::Returned;
 use calls::SwitchBox;
 use streams::Output;
@@ -118,6 +119,34 @@ fn feed(
     }
 }
 
+// What a read gave is fed to the box: the first n bytes of the buffer. None are the end of the input.
+// It stands apart from the read, whose bytes no contract names, so that its own can name them.
+fn heard(
+    b: SwitchBox,
+    output: Output,
+    input: &[u8],
+    n: usize,
+    program: &mut [u8],
+    saved: &mut [u8],
+    log: &mut [u8],
+    block: &mut [u8],
+) -> Next
+    requires { ⌜ Invariant (b .controller) × (n ≤ length (now input)) ⌝ }
+    ensures kept { λ r. ⌜ Invariant (r .held .controller) ⌝ }
+    ensures hears { λ r. ⌜ Hears n (now (input .entry)) (holding b (now (program .entry)) (now (saved .entry)) (now (log .entry))) output
+        (now (block .entry)) r (holding (r .held) (now (program .exit)) (now (saved .exit)) (now (log .exit)))
+        (now (block .exit)) ⌝ }
+{
+    if n == 0 {
+        return Next {
+            held: b,
+            output,
+            on: false,
+        };
+    }
+    feed(b, output, &input[..n], program, saved, log, block)
+}
+
 // What is gathered goes out, input is read once, and what came is fed to the box.
 fn turn(
     b: SwitchBox,
@@ -143,20 +172,19 @@ fn turn(
         };
     }
     let n = streams::read_some(&mut input);
-    if n == 0 {
-        return Next {
-            held: b,
-            output: empty,
-            on: false,
-        };
-    }
-    feed(b, empty, &input[..n], program, saved, log, block)
+    heard(b, empty, &input, n, program, saved, log, block)
 }
 
 // Input to its end. A proved loop has to end, so it counts its turns down, from a number that no run uses up.
-fn turns(b: SwitchBox, program: &mut [u8], saved: &mut [u8], log: &mut [u8], block: &mut [u8])
+fn turns(
+    b: SwitchBox,
+    program: &mut [u8],
+    saved: &mut [u8],
+    log: &mut [u8],
+    block: &mut [u8],
+) -> Next
     requires { ⌜ holding b (now program) (now saved) (now log) ≡ begins ⌝ }
-    ensures ran { λ _. ⌜ ((last : SwitchBox) × Ran last (now (program .exit)) (now (saved .exit)) (now (log .exit))) ⌝ }
+    ensures ends { λ r. ⌜ Ends r (holding (r .held) (now (program .exit)) (now (saved .exit)) (now (log .exit))) (now (block .exit)) ⌝ }
 {
     let mut s = b;
     let mut o = Output::new();
@@ -164,11 +192,16 @@ fn turns(b: SwitchBox, program: &mut [u8], saved: &mut [u8], log: &mut [u8], blo
     while left > 0 {
         let n = turn(s, o, program, saved, log, block);
         if !n.on {
-            return;
+            return n;
         }
         s = n.held;
         o = n.output;
         left -= 1;
+    }
+    Next {
+        held: s,
+        output: o,
+        on: true,
     }
 }
 

@@ -21,6 +21,10 @@ module _ (block bytes : List ℕ) (used at : ℕ) (le : at ≤ length block) (sa
   waited : length (take used block) ≡ at
   waited = ap length (sym same) ∙ length-take-le at block le
 
+  -- where they do not fit, they do not
+  pub too-long : length block - at < length bytes → length (take used block) + length bytes ≤ length block → ⊥
+  too-long more fits = omega (arith, waited, more, fits)
+
   -- the bytes follow
   pub follow : (part rest : List ℕ) → length bytes ≤ length block - at → part ≡ take (length bytes) bytes ++ rest
       → take (at + length bytes) (putMid at (length block - at) block part) ≡ waitsAfter (length block) (take used block) bytes

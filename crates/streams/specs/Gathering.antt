@@ -21,11 +21,12 @@ waitsAfter size waited bytes =
     else if leb (length bytes) size then bytes
     else []
 
--- what putting bytes does; no output that failed is open again
+-- what putting bytes does; no output that failed is open again, and none fails where they fit behind what waits, since nothing goes out then
 pub record Puts (o : Output) (block bytes : List ℕ) (r : Output) (block′ : List ℕ) : Type 0 where
   pub inside : r .used ≤ length block′
   pub waits : gathered r block′ ≡ waitsAfter (length block) (gathered o block) bytes
   pub failed : r .open ≡ true → o .open ≡ true
+  pub stays : length (gathered o block) + length bytes ≤ length block → r .open ≡ o .open
 
 -- what putting a number does: its decimal digits, the fewest that hold it
 abbrev pub PutsNumber : Output → List ℕ → ℕ → Output → List ℕ → Type 0

@@ -24,7 +24,7 @@ loop-holds : tie.Need-loop-holds Inv-loop μ-loop
 loop-holds c =
     let start = c .before .before .before .before .before in
     let a = start .args in
-    let nothing = does-nothing (holding (a .b) (a .program .now) (a .saved .now) (a .log .now)) (a .output) (a .output) (a .block .now) refl (λ e. e) in
+    let nothing = does-nothing (holding (a .b) (a .program .now) (a .saved .now) (a .log .now)) (a .output) (a .block .now) in
     (search needs, refl, refl, refl, refl, start .pre, nothing)
 
 shared-slice-read-one : tie.Need-shared-slice-read-one Inv-loop μ-loop

@@ -19,7 +19,7 @@ returns c =
     let a = start .args in
     let h = holding (a .b) (a .program .now) (a .saved .now) (a .log .now) in
     let e = c .before .before .flushed in
-    (start .pre, nothing-came h (a .output) (e .result) (a .block .now) (e .ensures) _ refl)
+    (start .pre, nothing-came h (a .output) (e .result) (a .block .now) (e .ensures) _ refl refl)
 
 slice-aggregate-read-some : tie.Need-slice-aggregate-read-some
 slice-aggregate-read-some c = search needs
@@ -27,25 +27,14 @@ slice-aggregate-read-some c = search needs
 read-some-requires : tie.Need-read-some-requires
 read-some-requires c κs = search needs
 
+slice-aggregate-heard : tie.Need-slice-aggregate-heard
+slice-aggregate-heard c = search needs
+
+heard-requires : tie.Need-heard-requires
+heard-requires c κs = search needs
+
 same-length-2 : tie.Need-same-length-2
 same-length-2 c = search needs
-
-returns-2 : tie.Need-returns-2
-returns-2 c =
-    let start = c .before .before .before .before .before .before .before .before .before .before .before .before in
-    let a = start .args in
-    let h = holding (a .b) (a .program .now) (a .saved .now) (a .log .now) in
-    let e = c .before .before .before .before .before .before .flushed in
-    (start .pre, nothing-came h (a .output) (e .result) (a .block .now) (e .ensures) _ refl)
-
-array-share-prefix-input : tie.Need-array-share-prefix-input
-array-share-prefix-input c = search needs
-
-slice-aggregate-feed : tie.Need-slice-aggregate-feed
-slice-aggregate-feed c = search needs
-
-feed-requires : tie.Need-feed-requires
-feed-requires c κs = search needs
 
 same-length-3 : tie.Need-same-length-3
 same-length-3 c = search needs
@@ -56,17 +45,14 @@ same-length-4 c = search needs
 same-length-5 : tie.Need-same-length-5
 same-length-5 c = search needs
 
-same-length-6 : tie.Need-same-length-6
-same-length-6 c = search needs
-
-returns-3 : tie.Need-returns-3
-returns-3 c =
+returns-2 : tie.Need-returns-2
+returns-2 c =
     let called = c .before .before .before .before .before .before .before .before in
-    let flush = called .before .before .before .before .before .before .before .before .before .before .before .before in
+    let flush = called .before .before .before .before .before .before .before .before .before .before .before in
     let a = flush .before .before .before .before .before .before .args in
     let h = holding (a .b) (a .program .now) (a .saved .now) (a .log .now) in
     let e = flush .flushed in
-    (called .feed .ensures .0, some-came h (a .output) (e .result) (a .block .now) (e .ensures) (called .feed .ensures .1))
+    (called .heard .ensures .0, some-came h (a .output) (e .result) (a .block .now) (e .ensures) (called .heard .ensures .1))
 
 pub turn-spec : {M : Type 1} → statement M
 turn-spec =
@@ -77,13 +63,10 @@ turn-spec =
     returns
     slice-aggregate-read-some
     read-some-requires
+    slice-aggregate-heard
+    heard-requires
     same-length-2
-    returns-2
-    array-share-prefix-input
-    slice-aggregate-feed
-    feed-requires
     same-length-3
     same-length-4
     same-length-5
-    same-length-6
-    returns-3)
+    returns-2)

@@ -1,6 +1,7 @@
 -- `streams::Output::put` meets its contract, in its three ways.
 -- Assumes nothing.
-use Rattle.streams.proofs.Gathering.{follow, alone, pass}
+use mathlib.Core.Path.{refl}
+use Rattle.streams.proofs.Gathering.{too-long, follow, alone, pass}
 use borrow.Author.Needs.{needs}
 use Rattle.streams.proofs.Output.put.Statement.{statement}
 use Rattle.streams.proofs.Output.put.Tie as tie
@@ -35,7 +36,7 @@ returns c =
     let held = c .before .before .before .before .before .held in
     let copy = c .before .before .copy in
     let law = follow (a .block .now) (a .bytes .now) (a .self .used) (held .result) (held .ensures .0 .0) (held .ensures .1) in
-    record { inside = search needs; waits = law _ _ (search needs) (copy .ensures); failed = λ e. e }
+    record { inside = search needs; waits = law _ _ (search needs) (copy .ensures); failed = λ e. e; stays = λ _. refl }
 
 flushed-requires : tie.Need-flushed-requires
 flushed-requires c κs = search needs
@@ -53,7 +54,13 @@ returns-2 c =
     let flushed = c .before .before .before .before .before .flushed in
     let copy2 = c .before .before .copy2 in
     let law = alone (a .block .now) (a .bytes .now) (a .self .used) (held .result) (held .ensures .0 .0) (held .ensures .1) in
-    record { inside = search needs; waits = law _ _ (search needs) (search needs) (copy2 .ensures); failed = flushed .ensures .1 }
+    let never = too-long (a .block .now) (a .bytes .now) (a .self .used) (held .result) (held .ensures .0 .0) (held .ensures .1) in
+    record {
+      inside = search needs;
+      waits = law _ _ (search needs) (search needs) (copy2 .ensures);
+      failed = flushed .ensures .1;
+      stays = λ fits. absurd (never (search needs) fits);
+    }
 
 sent-requires : tie.Need-sent-requires
 sent-requires c κs = search needs
@@ -67,7 +74,13 @@ returns-3 c =
     let held = c .before .before .before .before .before .held in
     let flushed = c .before .before .flushed in
     let law = pass (a .block .now) (a .bytes .now) (a .self .used) (held .result) (held .ensures .0 .0) (held .ensures .1) in
-    record { inside = search needs; waits = law _ _ (c .sent .ensures .0) (search needs); failed = λ e. flushed .ensures .1 (c .sent .ensures .1 e) }
+    let never = too-long (a .block .now) (a .bytes .now) (a .self .used) (held .result) (held .ensures .0 .0) (held .ensures .1) in
+    record {
+      inside = search needs;
+      waits = law _ _ (c .sent .ensures .0) (search needs);
+      failed = λ e. flushed .ensures .1 (c .sent .ensures .1 e);
+      stays = λ fits. absurd (never (search needs) fits);
+    }
 
 pub put-spec : {M : Type 1} → statement M
 put-spec =
