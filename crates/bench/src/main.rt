@@ -1,4 +1,4 @@
-// The program bench of 01: a box on standard input and output.
+// The program bench of 01: a box on standard input, or a file that an argument names, and standard output.
 fn main() {
-    console::run();
+    console::run(b"bench [FILE]");
 }

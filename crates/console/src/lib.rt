@@ -1,5 +1,5 @@
-// A box on standard input and output: byte 1 is a tick, 2 and 3 are buttons 1 and 2, every other byte goes to the wire, and the
-// replies are gathered and go out before more input is waited for.
+// A box on standard output and standard input, or a file that an argument names: byte 1 is a tick, 2 and 3 are buttons 1 and 2, every other byte
+// goes to the wire, and the replies are gathered and go out before more input is waited for.
 // What each byte does, to the box, to every lent byte and to what is gathered, is in contracts, by specs/Inputs.antt; which bytes were read, and which
 // went out, is in none, since C's have none.
 ghost use mathlib.Core.Bool.{true};
@@ -12,6 +12,8 @@ ghost use Rattle.console.specs.Inputs.{holding, callOf, Takes, Feeds, He
 use calls::Returned;
 use calls::SwitchBox;
 use streams::Output;
+use streams::arguments;
+use streams::input::Input;
 
 // The box and its output after some input, and whether there may be more.
 pub struct Next {
@@ -150,6 +152,7 @@ fn heard(
 // What is gathered goes out, input is read once, and what came is fed to the box.
 fn turn(
     b: SwitchBox,
+    input: Input,
     output: Output,
     program: &mut [u8],
     saved: &mut [u8],
@@ -162,7 +165,7 @@ fn turn(
         (now (block .entry)) r (holding (r .held) (now (program .exit)) (now (saved .exit)) (now (log .exit)))
         (now (block .exit)) ⌝ }
 {
-    let mut input = [0u8; 4096];
+    let mut bytes = [0u8; 4096];
     let empty = output.flushed(block);
     if !empty.open {
         return Next {
@@ -171,13 +174,14 @@ fn turn(
             on: false,
         };
     }
-    let n = streams::read_some(&mut input);
-    heard(b, empty, &input, n, program, saved, log, block)
+    let n = input.read_some(&mut bytes);
+    heard(b, empty, &bytes, n, program, saved, log, block)
 }
 
 // Input to its end. A proved loop has to end, so it counts its turns down, from a number that no run uses up.
 fn turns(
     b: SwitchBox,
+    input: Input,
     program: &mut [u8],
     saved: &mut [u8],
     log: &mut [u8],
@@ -190,7 +194,7 @@ fn turns(
     let mut o = Output::new();
     let mut left = u64::MAX;
     while left > 0 {
-        let n = turn(s, o, program, saved, log, block);
+        let n = turn(s, input, o, program, saved, log, block);
         if !n.on {
             return n;
         }
@@ -205,13 +209,21 @@ fn turns(
     }
 }
 
-// A box with an all-zero saved copy and the smallest log, from power-on to the end of the input.
-pub fn run() {
+// A box with an all-zero saved copy and the smallest log, from power-on to the end of the input: of standard input, or of the file that an
+// argument names.
+pub fn run(usage: &[u8]) {
     let mut program = [0u8; lines::PROGRAM];
     let mut saved = [0u8; lines::PROGRAM];
     let mut log = [0u8; log::LEAST_AREA];
     let mut block = [0u8; 4096];
+    if !arguments::fit(1, 1, usage) {
+        return;
+    }
+    let input = Input::from(1);
+    if input.failed {
+        return;
+    }
     let a = SwitchBox::power_on(&mut program, &saved, &log);
     let held = a.next;
-    turns(held, &mut program, &mut saved, &mut log, &mut block);
+    turns(held, input, &mut program, &mut saved, &mut log, &mut block);
 }

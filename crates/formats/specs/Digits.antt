@@ -1,9 +1,9 @@
 -- Numbers as digits, the highest first. Characters on the wire are digits to the base 10 or 16; the bytes of a line's time or
 -- of a record's tick are digits to the base 256.
 -- 01, 'The wire': "Formats: h is two hex digits, d three decimal digits to 255, 2d four decimal digits to 9999."
-use Prim.Native.Nat.{ℕ, zero, suc, _+_, _*_, _-_, _/_, _%_}
+use Prim.Native.Nat.{ℕ, zero, suc, _+_, _*_, _-_, _/_, _%_, min}
 use Prim.Native.Char.{code}
-use mathlib.Core.Bool.{Bool, _&&_}
+use mathlib.Core.Bool.{Bool, _&&_, not}
 use mathlib.Core.List.{List, [], _∷_, _++_, map}
 use lib.ListN.{length}
 use lib.Dec.{leb, ltb, eqb}
@@ -70,6 +70,28 @@ dIn cs = do
 
 abbrev pub 2d : ℕ → List ℕ
 2d v = shown 10 4 v
+
+-- ---- a number as a person writes and reads it
+
+-- how many decimal digits it has, if at most n
+unfoldable pub width : ℕ → ℕ → ℕ
+width zero v = 0
+width (suc n) v = if ltb v 10 then 1 else width n (v / 10) + 1
+
+-- a number of eight bytes has at most twenty
+abbrev pub mostDigits : ℕ
+mostDigits = 20
+
+-- in decimal, without leading zeros
+abbrev pub decimal : ℕ → List ℕ
+decimal v = shown 10 (width mostDigits v) v
+
+-- the number that a person wrote, in one digit or more, or the error e; `most` stands for every number from it on
+unfoldable pub decimalIn : ℕ → ℕ → List ℕ → Res ℕ
+decimalIn most e cs = do
+  not (eqb (length cs) 0) orElse e
+  v ← numberIn 10 e cs
+  passed (min v most)
 
 -- "Errors are E and three digits."
 unfoldable pub errorText : ℕ → List ℕ

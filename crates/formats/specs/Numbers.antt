@@ -4,6 +4,8 @@ use Prim.Native.Nat.{ℕ}
 use Rattle.formats.specs.Checks.{Res, refused, passed}
 use Rattle.formats.specs.declared.Number.{Number}
 use Rattle.formats.specs.declared.Number.the-variants.{Is, No}
+use Rattle.formats.specs.declared.Written.{Written}
+use Rattle.formats.specs.declared.Written.the-variants.{Is as IsWritten, No as NotWritten}
 use Rattle.formats.specs.declared.Byte.{Byte}
 use Rattle.formats.specs.declared.Byte.the-variants.{Is as IsByte, Error}
 
@@ -12,6 +14,14 @@ use Rattle.formats.specs.declared.Byte.the-variants.{Is as IsByte, Error
 abbrev pub numberOr : ℕ → Number → Res ℕ
 numberOr e No = refused e
 numberOr e (Is v) = passed v
+
+-- the largest number of eight bytes
+abbrev pub mostWritten : ℕ
+mostWritten = 18446744073709551615
+
+abbrev pub writtenOr : ℕ → Written → Res ℕ
+writtenOr e NotWritten = refused e
+writtenOr e (IsWritten v) = passed v
 
 abbrev pub byteOf : Res ℕ → Byte
 byteOf (refused e) = Error e

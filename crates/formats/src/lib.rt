@@ -4,16 +4,22 @@
 // below stand for, specs/Writing.antt for what writing into an area leaves there.
 ghost use mathlib.Core.Path.{_≡_};
 ghost use mathlib.Core.List.{[], _∷_, _++_};
-ghost use Prim.Native.Nat.{ℕ, _+_, _≤_, _<_};
+ghost use Prim.Native.Nat.{ℕ, _+_, _*_, _≤_, _<_, min};
 ghost use lib.ListN.{length, take, drop};
-ghost use Rattle.formats.specs.Digits.{number, digitValue, digitChar, shown, numberIn, hIn, dIn, errorText};
+ghost use Rattle.formats.specs.Digits.{number, digitValue, digitChar, shown, numberIn, hIn, dIn, width, mostDigits, decimal, decimalIn, errorText};
 ghost use Rattle.formats.specs.Bytes.{bytes};
-ghost use Rattle.formats.specs.Numbers.{numberOr, byteOf};
+ghost use Rattle.formats.specs.Numbers.{numberOr, mostWritten, writtenOr, byteOf};
 ghost use Rattle.formats.specs.Writing.{Wrote};
 
 // What characters stand for: a number, or none, which has its error's number from who asked.
 pub enum Number {
     Is(u32),
+    No,
+}
+
+// What a person wrote: a number, of which the largest stands for itself and every larger one; or no number.
+pub enum Written {
+    Is(u64),
     No,
 }
 
@@ -149,6 +155,50 @@ pub fn d_in(cs: &[u8]) -> Byte
     Byte::Is(v as u8)
 }
 
+// A number with one decimal digit more behind it, or the largest where that is more.
+fn with_digit(v: u64, d: u64) -> u64
+    requires { ⌜ d < 10 ⌝ }
+    ensures number { λ r. ⌜ r ≡ min (v * 10 + d) mostWritten ⌝ }
+{
+    if (u64::MAX - d) / 10 < v {
+        return u64::MAX;
+    }
+    v * 10 + d
+}
+
+// A number as a person writes it, in decimal digits, one or more and as many as there are.
+pub fn decimal_in(cs: &[u8]) -> Written
+    ensures number { λ r. ⌜ ((e : ℕ) → writtenOr e r ≡ decimalIn mostWritten e (now (cs .entry))) ⌝ }
+{
+    if cs.len() == 0 {
+        return Written::No;
+    }
+    let mut v: u64 = 0;
+    let mut i: usize = 0;
+    while i < cs.len() {
+        let d = digit_value(cs[i]) as u64;
+        if 10 <= d {
+            return Written::No;
+        }
+        v = with_digit(v, d);
+        i += 1;
+    }
+    Written::Is(v)
+}
+
+// How many decimal digits a number has.
+fn width(v: u64) -> usize
+    ensures digits { λ r. ⌜ (r ≡ width mostDigits v) × (r ≤ mostDigits) ⌝ }
+{
+    let mut n: usize = 1;
+    let mut rest = v;
+    while 10 <= rest {
+        rest = rest / 10;
+        n += 1;
+    }
+    n
+}
+
 // ---- text in an area
 // Each writer below writes from place `at` on, leaves every other byte, and returns the place behind what it wrote.
 
@@ -163,7 +213,7 @@ pub fn put_char(area: &mut [u8], at: usize, c: u8) -> usize
 }
 
 // A number in n digits to a base, from the last to the first.
-pub fn put_digits(area: &mut [u8], at: usize, base: u32, n: usize, v: u32) -> usize
+pub fn put_digits(area: &mut [u8], at: usize, base: u64, n: usize, v: u64) -> usize
     requires { ⌜ (at + n ≤ length (now area)) × (1 < base) × (base ≤ 16) ⌝ }
     ensures wrote { λ r. ⌜ Wrote at (shown base n v) (now (area .entry)) r (now (area .exit)) ⌝ }
     ensures near { λ r. ⌜ r ≡ at + n ⌝ }
@@ -178,6 +228,16 @@ pub fn put_digits(area: &mut [u8], at: usize, base: u32, n: usize, v: u32) -> us
     at + n
 }
 
+// A number in decimal, without leading zeros.
+pub fn put_decimal(area: &mut [u8], at: usize, v: u64) -> usize
+    requires { ⌜ at + length (decimal v) ≤ length (now area) ⌝ }
+    ensures wrote { λ r. ⌜ Wrote at (decimal v) (now (area .entry)) r (now (area .exit)) ⌝ }
+    ensures near { λ r. ⌜ r ≡ at + length (decimal v) ⌝ }
+{
+    let n = width(v);
+    put_digits(area, at, 10, n, v)
+}
+
 // E and the number of an error or a refusal in three digits.
 pub fn put_error(area: &mut [u8], at: usize, e: u8) -> usize
     requires { ⌜ at + 4 ≤ length (now area) ⌝ }
@@ -185,5 +245,5 @@ pub fn put_error(area: &mut [u8], at: usize, e: u8) -> usize
     ensures near { λ r. ⌜ r ≡ at + 4 ⌝ }
 {
     let next = put_char(area, at, b'E');
-    put_digits(area, next, 10, 3, e as u32)
+    put_digits(area, next, 10, 3, e as u64)
 }

@@ -6,7 +6,6 @@ use Prim.Native.Nat.{ℕ, _+_, _≤_}
 use lib.Dec.{leb}
 use lib.ListN.{length, take}
 use Rattle.formats.specs.Checks.{if_then_else_}
-use Rattle.io.specs.Digits.{digits, Fewest}
 use Rattle.streams.specs.declared.Output.{Output}
 
 -- the bytes that wait in the block
@@ -27,7 +26,3 @@ pub record Puts (o : Output) (block bytes : List ℕ) (r : Output) (block′ : L
   pub waits : gathered r block′ ≡ waitsAfter (length block) (gathered o block) bytes
   pub failed : r .open ≡ true → o .open ≡ true
   pub stays : length (gathered o block) + length bytes ≤ length block → r .open ≡ o .open
-
--- what putting a number does: its decimal digits, the fewest that hold it
-abbrev pub PutsNumber : Output → List ℕ → ℕ → Output → List ℕ → Type 0
-PutsNumber o block v r block′ = (k : ℕ) × Fewest 10 1 v k × Puts o block (digits 10 k v) r block′

@@ -1,15 +1,19 @@
-// Standard input and output for programs: input is read to its end, and output is gathered in a block that the program lends.
-// What is gathered goes out where the next bytes do not fit behind it, and where the program asks, as before it waits for input.
-// Definitions: specs/Gathering.antt. Which bytes a read or a write moves is in no contract, since C's have none.
+// What programs share: their arguments, the files that these name or standard input, and standard output.
+// Output is gathered in a block that the program lends. It goes out where the next bytes do not fit behind it, and where the program asks, as
+// before it waits for input.
+// Definitions: specs/Gathering.antt. Which bytes a read or a write moves, or an argument has, is in no contract, since C's have none.
 ghost use mathlib.Core.Bool.{true};
 ghost use mathlib.Core.List.{[], _∷_, _++_};
 ghost use mathlib.Core.Path.{_≡_};
 ghost use lib.ListN.{take};
-ghost use Rattle.formats.specs.Digits.{errorText};
+ghost use Rattle.formats.specs.Digits.{shown, decimal, errorText};
 ghost use Rattle.io.specs.Counts.{Counts};
-ghost use Rattle.streams.specs.Gathering.{gathered, Puts, PutsNumber};
-use libc::STDIN_FILENO;
+ghost use Rattle.streams.specs.Gathering.{gathered, Puts};
+use libc::STDERR_FILENO;
 use libc::STDOUT_FILENO;
+
+pub mod arguments;
+pub mod input;
 
 // The state of standard output. The block that goes with it is lent to each call.
 pub struct Output {
@@ -19,67 +23,6 @@ pub struct Output {
     pub open: bool,
 }
 
-// ---- input
-
-// What came: so many bytes, at the start of the buffer, and whether a read failed then.
-pub struct Got {
-    pub count: usize,
-    pub failed: bool,
-}
-
-// Input is read once, as much as there is. A read that failed is told on standard error.
-fn read_once(input: &mut [u8]) -> Got
-    ensures counts { λ r. ⌜ Counts (r .count) (now (input .exit)) ⌝ }
-{
-    let got = libc::read(STDIN_FILENO, input);
-    if got < 0 {
-        os::fail(&[b'r', b'e', b'a', b'd']);
-        return Got {
-            count: 0,
-            failed: true,
-        };
-    }
-    let count = io::count(got, input);
-    Got {
-        count,
-        failed: false,
-    }
-}
-
-// The same for a program that takes a read that failed as the end of its input.
-pub fn read_some(input: &mut [u8]) -> usize
-    ensures counts { λ r. ⌜ Counts r (now (input .exit)) ⌝ }
-{
-    let got = read_once(input);
-    got.count
-}
-
-// Input is read until the buffer is full, there is no more, or a read fails.
-pub fn read_whole(buffer: &mut [u8]) -> Got
-    ensures counts { λ r. ⌜ Counts (r .count) (now (buffer .exit)) ⌝ }
-{
-    let mut n: usize = 0;
-    while n < buffer.len() {
-        let more = read_once(&mut buffer[n..]);
-        if more.count == 0 {
-            return Got {
-                count: n,
-                failed: more.failed,
-            };
-        }
-        n += more.count;
-    }
-    Got {
-        count: n,
-        failed: false,
-    }
-}
-
-// Whether somebody may wait for an answer before more input comes: so it is where the input has no position, as a pipe or a terminal.
-pub fn is_awaited() -> bool {
-    libc::lseek(STDIN_FILENO, 0, libc::SEEK_CUR) < 0
-}
-
 // ---- output
 
 // Bytes are written, all of them. A write that failed is told on standard error.
@@ -87,7 +30,7 @@ fn write_whole(bytes: &[u8]) -> bool {
     if io::write_all(STDOUT_FILENO, bytes) {
         return true;
     }
-    os::fail(&[b'w', b'r', b'i', b't', b'e']);
+    os::fail(b"cannot write standard output");
     false
 }
 
@@ -177,16 +120,27 @@ impl Output {
         self.put(block, bytes)
     }
 
-    // A number is gathered, in decimal digits and no more of them than it has.
-    pub fn put_number(self, block: &mut [u8], v: u64) -> Output
-        ensures puts { λ r. ⌜ PutsNumber self (now (block .entry)) v r (now (block .exit)) ⌝ }
+    // A number is gathered, in decimal without leading zeros, and the byte that stands behind it.
+    pub fn put_number(self, block: &mut [u8], v: u64, end: u8) -> Output
+        ensures puts { λ r. ⌜ Puts self (now (block .entry)) (decimal v ++ (end ∷ [])) r (now (block .exit)) ⌝ }
     {
-        let mut digits = [0u8; 20];
-        let n = io::decimal(v, &mut digits);
-        self.put(block, &digits[..n])
+        let mut line = [0u8; 21];
+        let next = formats::put_decimal(&mut line, 0, v);
+        let n = formats::put_char(&mut line, next, end);
+        self.put_first(block, &line, n)
     }
 
-    // A refusal is gathered: E, its number in three digits, and the byte that ends a line.
+    // A word of 32 bits is gathered, in eight capital hex digits, and the byte that stands behind it.
+    pub fn put_word(self, block: &mut [u8], v: u32, end: u8) -> Output
+        ensures puts { λ r. ⌜ Puts self (now (block .entry)) (shown 16 8 v ++ (end ∷ [])) r (now (block .exit)) ⌝ }
+    {
+        let mut line = [0u8; 9];
+        let next = formats::put_digits(&mut line, 0, 16, 8, v as u64);
+        let n = formats::put_char(&mut line, next, end);
+        self.put_first(block, &line, n)
+    }
+
+    // A refusal is gathered: E, its number in three digits, and the byte that stands behind it.
     pub fn put_error(self, block: &mut [u8], e: u8, end: u8) -> Output
         ensures puts { λ r. ⌜ Puts self (now (block .entry)) (errorText e ++ (end ∷ [])) r (now (block .exit)) ⌝ }
     {
@@ -195,4 +149,11 @@ impl Output {
         let n = formats::put_char(&mut line, next, end);
         self.put_first(block, &line, n)
     }
+}
+
+// ---- messages
+
+// Bytes go to standard error. Where it takes none, nobody can be told.
+pub fn say(bytes: &[u8]) {
+    io::write_all(STDERR_FILENO, bytes);
 }

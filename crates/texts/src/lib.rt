@@ -26,17 +26,17 @@ pub fn put_line_text(area: &mut [u8], at: usize, l: Line) -> usize
         Line::State { outputs, time } => {
             let letter = formats::put_char(area, at, b'S');
             let reserved = formats::put_digits(area, letter, 10, 2, 0);
-            let word = formats::put_digits(area, reserved, 16, 8, outputs);
-            formats::put_digits(area, word, 10, 4, time as u32)
+            let word = formats::put_digits(area, reserved, 16, 8, outputs as u64);
+            formats::put_digits(area, word, 10, 4, time as u64)
         }
         Line::For { counter, count } => {
             let letter = formats::put_char(area, at, b'F');
-            let digit = formats::put_digits(area, letter, 10, 1, counter as u32);
-            formats::put_digits(area, digit, 10, 4, count as u32)
+            let digit = formats::put_digits(area, letter, 10, 1, counter as u64);
+            formats::put_digits(area, digit, 10, 4, count as u64)
         }
         Line::Next { counter } => {
             let letter = formats::put_char(area, at, b'N');
-            formats::put_digits(area, letter, 10, 1, counter as u32)
+            formats::put_digits(area, letter, 10, 1, counter as u64)
         }
         Line::Bad => at,
     }

@@ -1,12 +1,14 @@
-// Trials of the five calls with areas of any length, driven by records of four bytes on standard input: what to do, a byte x, and two
-// bytes more; the last three are also one number, of a button or of a length. After each call a line tells the refusal, the lines run,
-// the bytes written, a sum of each whole buffer, and the bytes written. model/trials.py writes the input and the expected output.
+// Trials of the five calls with areas of any length, driven by records of four bytes, on standard input or in a file that an argument names: what to
+// do, a byte x, and two bytes more; the last three are also one number, of a button or of a length. After each call a line tells the refusal, the
+// lines run, the bytes written, a sum of each whole buffer, and the bytes written. model/trials.py writes the input and the expected output.
 ghost use Prim.Native.Nat.{_<_};
 ghost use Rattle.controller.specs.Invariant.{Invariant};
 ghost use Rattle.trials.specs.Fits.{Fits, Buffers};
 use calls::Returned;
 use calls::SwitchBox;
 use streams::Output;
+use streams::arguments;
+use streams::input::Input;
 
 // How many bytes of each buffer are lent.
 struct Sizes {
@@ -22,9 +24,10 @@ struct After {
     output: Output,
 }
 
-// The box, the output and the sizes after a record, and whether there may be more.
+// The box, the input, the output and the sizes after a record, and whether there may be more.
 struct Next {
     held: SwitchBox,
+    input: Input,
     output: Output,
     sizes: Sizes,
     on: bool,
@@ -36,8 +39,6 @@ struct Record {
     x: u8,
     at: usize,
     number: u32,
-    // all four bytes came
-    whole: bool,
 }
 
 // A call with the areas that it is lent.
@@ -123,8 +124,7 @@ fn sum(area: &[u8]) -> u64 {
 
 // A number, and a space.
 fn number(output: Output, block: &mut [u8], v: u64) -> Output {
-    let digits = output.put_number(block, v);
-    digits.put(block, &[b' '])
+    output.put_number(block, v, b' ')
 }
 
 // The three numbers that a call returned.
@@ -227,24 +227,7 @@ fn made_of(op: u8, x: u8, high: u8, low: u8) -> Record {
         x,
         at: two as usize,
         number: x as u32 * 65536 + two as u32,
-        whole: true,
     }
-}
-
-// The next record, whole or cut short by the end of the input.
-fn read_record() -> Record {
-    let mut b = [0u8; 4];
-    let got = streams::read_whole(&mut b);
-    if got.count < 4 {
-        return Record {
-            op: 0,
-            x: 0,
-            at: 0,
-            number: 0,
-            whole: false,
-        };
-    }
-    made_of(b[0], b[1], b[2], b[3])
 }
 
 // ---- the whole
@@ -285,9 +268,10 @@ fn one(
     After { held: b, output }
 }
 
-// The next record, if there is one. At the end what is gathered goes out.
+// The next record, if there is a whole one. At the end what is gathered goes out.
 fn turn(
     b: SwitchBox,
+    input: Input,
     output: Output,
     s: Sizes,
     program: &mut [u8],
@@ -300,31 +284,38 @@ fn turn(
     ensures kept { λ r. ⌜ (Invariant (r .held .controller)) × (Fits (r .sizes))
         × (Buffers (now (program .exit)) (now (saved .exit)) (now (log .exit)) (now (out .exit))) ⌝ }
 {
-    let r = read_record();
-    if !r.whole {
+    let mut bytes = [0u8; 4];
+    let p = input.piece(output, block, &mut bytes);
+    let input = p.input;
+    let output = p.output;
+    if p.count < 4 {
+        let output = output.flushed(block);
         return Next {
             held: b,
-            output: output.flushed(block),
+            input,
+            output,
             sizes: s,
             on: false,
         };
     }
+    let r = made_of(bytes[0], bytes[1], bytes[2], bytes[3]);
     let a = one(b, output, s, r, program, saved, log, out, block);
     let held = a.held;
     let output = a.output;
     let sizes = resized(s, r.op, r.number);
-    let on = output.open;
     Next {
         held,
+        input,
         output,
         sizes,
-        on,
+        on: true,
     }
 }
 
 // Records to the end of the input. A proved loop has to end, so it counts its turns down.
 fn turns(
     b: SwitchBox,
+    from: Input,
     program: &mut [u8],
     saved: &mut [u8],
     log: &mut [u8],
@@ -334,6 +325,7 @@ fn turns(
     requires { ⌜ (Invariant (b .controller)) × (Buffers (now program) (now saved) (now log) (now out)) ⌝ }
 {
     let mut held = b;
+    let mut input = from;
     let mut output = Output::new();
     let mut sizes = Sizes {
         program: lines::PROGRAM,
@@ -343,11 +335,12 @@ fn turns(
     };
     let mut left = u64::MAX;
     while left > 0 {
-        let n = turn(held, output, sizes, program, saved, log, out, block);
+        let n = turn(held, input, output, sizes, program, saved, log, out, block);
         if !n.on {
             return;
         }
         held = n.held;
+        input = n.input;
         output = n.output;
         sizes = n.sizes;
         left -= 1;
@@ -361,11 +354,16 @@ fn main() {
     let mut log = [0u8; 65544];
     let mut out = [0u8; 128];
     let mut block = [0u8; 4096];
+    if !arguments::fit(1, 1, b"trials [FILE]") {
+        return;
+    }
+    let input = Input::from(1);
     // before any power-on the box is what a refused one returns; `out` is no program area
     let a = SwitchBox::power_on(&mut out, &saved, &log);
     let unpowered = a.next;
     turns(
         unpowered,
+        input,
         &mut program,
         &mut saved,
         &mut log,

@@ -154,7 +154,7 @@ fn put_hex(area: &mut [u8], at: usize, v: u8) -> usize
     ensures wrote { λ r. ⌜ Wrote at (h v) (now (area .entry)) r (now (area .exit)) ⌝ }
     ensures near { λ r. ⌜ r ≡ at + 2 ⌝ }
 {
-    formats::put_digits(area, at, 16, 2, v as u32)
+    formats::put_digits(area, at, 16, 2, v as u64)
 }
 
 // A byte in the format d, three decimal digits.
@@ -163,7 +163,7 @@ fn put_decimal(area: &mut [u8], at: usize, v: u8) -> usize
     ensures wrote { λ r. ⌜ Wrote at (d v) (now (area .entry)) r (now (area .exit)) ⌝ }
     ensures near { λ r. ⌜ r ≡ at + 3 ⌝ }
 {
-    formats::put_digits(area, at, 10, 3, v as u32)
+    formats::put_digits(area, at, 10, 3, v as u64)
 }
 
 // The count at 213-216, in four decimal digits.
@@ -174,7 +174,7 @@ fn put_count(area: &mut [u8], at: usize, run: Run, k: u8) -> usize
 {
     let counters = run.counters;
     let counter = counters[(k - 213) as usize];
-    formats::put_digits(area, at, 10, 4, counter.count as u32)
+    formats::put_digits(area, at, 10, 4, counter.count as u64)
 }
 
 // What a read of address k shows.

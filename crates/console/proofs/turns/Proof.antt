@@ -12,13 +12,13 @@ use Rattle.console.proofs.turns.Statement.{statement}
 use Rattle.console.proofs.turns.Tie as tie
 
 abbrev Inv-loop : tie.InvT-loop
-Inv-loop program₀ saved₀ log₀ block₀ s₀ o₀ left₀ program saved log block s o left =
+Inv-loop input program₀ saved₀ log₀ block₀ s₀ o₀ left₀ program saved log block s o left =
     (length program ≡ length program₀) × (length saved ≡ length saved₀) × (length log ≡ length log₀) × (length block ≡ length block₀)
     × Invariant (s .controller) × (left ≤ 18446744073709551615)
     × Turned (18446744073709551615 - left) (holding s program saved log) o block
 
 abbrev μ-loop : tie.MeasureT-loop
-μ-loop program₀ saved₀ log₀ block₀ s₀ o₀ left₀ program saved log block s o left = left
+μ-loop input program₀ saved₀ log₀ block₀ s₀ o₀ left₀ program saved log block s o left = left
 
 new-requires : tie.Need-new-requires Inv-loop μ-loop
 new-requires c κs = search needs

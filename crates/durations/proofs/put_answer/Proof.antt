@@ -10,12 +10,6 @@ enum-known-answer c = search needs
 put-number-requires : tie.Need-put-number-requires
 put-number-requires c κs = search needs
 
-slice-aggregate-put : tie.Need-slice-aggregate-put
-slice-aggregate-put c = search needs
-
-put-requires : tie.Need-put-requires
-put-requires c κs = search needs
-
 enum-known-answer-2 : tie.Need-enum-known-answer-2
 enum-known-answer-2 c = search needs
 
@@ -26,11 +20,7 @@ same-length : tie.Need-same-length
 same-length c = search needs
 
 returns : tie.Need-returns
-returns c =
-    let the-answer = c .before .before .before .before .before .before .before .before .before .before .answer in
-    let put-number = c .before .before .before .before .before .before .before .put-number in
-    let the-put = c .before .before .put in
-    rw (the-answer .given .1) (_, _, put-number .ensures, the-put .ensures)
+returns c = rw (c .before .before .before .before .before .answer .given .1) (c .before .before .put-number .ensures)
 
 same-length-2 : tie.Need-same-length-2
 same-length-2 c = search needs
@@ -44,8 +34,6 @@ put-answer-spec =
     (tie.spec
     enum-known-answer
     put-number-requires
-    slice-aggregate-put
-    put-requires
     enum-known-answer-2
     put-error-requires
     same-length

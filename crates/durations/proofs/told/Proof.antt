@@ -1,6 +1,5 @@
 -- `durations::told` meets its contract: the report is put as a line, and added.
 -- Assumes nothing.
-use mathlib.Core.Path.{refl}
 use borrow.Author.Needs.{needs}
 use Rattle.durations.proofs.told.Statement.{statement}
 use Rattle.durations.proofs.told.Tie as tie
@@ -19,9 +18,9 @@ same-length c = search needs
 
 returns : tie.Need-returns
 returns c =
-    let report = c .before .before .before .before .before .before .report in
-    let put-answer = c .before .before .before .before .put-answer in
-    record { line = rw (report .ensures) at (put-answer .ensures); total = rw (report .ensures) at (c .before .total-with .ensures); on = refl; failed = refl }
+    let report = c .before .before .before .before .before .report in
+    let put-answer = c .before .before .before .put-answer in
+    record { line = rw (report .ensures) at (put-answer .ensures); total = rw (report .ensures) at (c .total-with .ensures) }
 
 pub told-spec : {M : Type 1} → statement M
 told-spec =

@@ -7,10 +7,10 @@ use Rattle.durations.proofs.turns.Statement.{statement}
 use Rattle.durations.proofs.turns.Tie as tie
 
 abbrev Inv-loop : tie.InvT-loop
-Inv-loop block₀ awaited n₀ left₀ block n left = length block ≡ length block₀
+Inv-loop block₀ n₀ left₀ block n left = length block ≡ length block₀
 
 abbrev μ-loop : tie.MeasureT-loop
-μ-loop block₀ awaited n₀ left₀ block n left = left
+μ-loop block₀ n₀ left₀ block n left = left
 
 new-requires : tie.Need-new-requires Inv-loop μ-loop
 new-requires c κs = search needs
@@ -27,12 +27,6 @@ same-length c = search needs
 returns : tie.Need-returns Inv-loop μ-loop
 returns c = search needs
 
-same-length-2 : tie.Need-same-length-2 Inv-loop μ-loop
-same-length-2 c = search needs
-
-returns-2 : tie.Need-returns-2 Inv-loop μ-loop
-returns-2 c = search needs
-
 sub-left : tie.Need-sub-left Inv-loop μ-loop
 sub-left c = search needs
 
@@ -42,11 +36,11 @@ loop-less c = search needs
 loop-again : tie.Need-loop-again Inv-loop μ-loop
 loop-again c = search needs
 
-same-length-3 : tie.Need-same-length-3 Inv-loop μ-loop
-same-length-3 c = search needs
+same-length-2 : tie.Need-same-length-2 Inv-loop μ-loop
+same-length-2 c = search needs
 
-returns-3 : tie.Need-returns-3 Inv-loop μ-loop
-returns-3 c = search needs
+returns-2 : tie.Need-returns-2 Inv-loop μ-loop
+returns-2 c = search needs
 
 pub turns-spec : {M : Type 1} → statement M
 turns-spec =
@@ -59,10 +53,8 @@ turns-spec =
     turn-requires
     same-length
     returns
-    same-length-2
-    returns-2
     sub-left
     loop-less
     loop-again
-    same-length-3
-    returns-3)
+    same-length-2
+    returns-2)

@@ -17,11 +17,14 @@ put-char-requires c κs = search needs
 put-digits-requires : tie.Need-put-digits-requires
 put-digits-requires c κs = search needs
 
+cast-put-digits : tie.Need-cast-put-digits
+cast-put-digits c = search needs
+
 put-digits-requires-2 : tie.Need-put-digits-requires-2
 put-digits-requires-2 c κs = search needs
 
-cast-put-digits : tie.Need-cast-put-digits
-cast-put-digits c = search needs
+cast-put-digits-2 : tie.Need-cast-put-digits-2
+cast-put-digits-2 c = search needs
 
 put-digits-requires-3 : tie.Need-put-digits-requires-3
 put-digits-requires-3 c κs = search needs
@@ -32,14 +35,14 @@ enum-known-l-2 c = search needs
 put-char-requires-2 : tie.Need-put-char-requires-2
 put-char-requires-2 c κs = search needs
 
-cast-put-digits-2 : tie.Need-cast-put-digits-2
-cast-put-digits-2 c = search needs
+cast-put-digits-3 : tie.Need-cast-put-digits-3
+cast-put-digits-3 c = search needs
 
 put-digits-requires-4 : tie.Need-put-digits-requires-4
 put-digits-requires-4 c κs = search needs
 
-cast-put-digits-3 : tie.Need-cast-put-digits-3
-cast-put-digits-3 c = search needs
+cast-put-digits-4 : tie.Need-cast-put-digits-4
+cast-put-digits-4 c = search needs
 
 put-digits-requires-5 : tie.Need-put-digits-requires-5
 put-digits-requires-5 c κs = search needs
@@ -50,8 +53,8 @@ enum-known-l-3 c = search needs
 put-char-requires-3 : tie.Need-put-char-requires-3
 put-char-requires-3 c κs = search needs
 
-cast-put-digits-4 : tie.Need-cast-put-digits-4
-cast-put-digits-4 c = search needs
+cast-put-digits-5 : tie.Need-cast-put-digits-5
+cast-put-digits-5 c = search needs
 
 put-digits-requires-6 : tie.Need-put-digits-requires-6
 put-digits-requires-6 c κs = search needs
@@ -109,18 +112,19 @@ put-line-text-spec =
     enum-known-l
     put-char-requires
     put-digits-requires
-    put-digits-requires-2
     cast-put-digits
+    put-digits-requires-2
+    cast-put-digits-2
     put-digits-requires-3
     enum-known-l-2
     put-char-requires-2
-    cast-put-digits-2
-    put-digits-requires-4
     cast-put-digits-3
+    put-digits-requires-4
+    cast-put-digits-4
     put-digits-requires-5
     enum-known-l-3
     put-char-requires-3
-    cast-put-digits-4
+    cast-put-digits-5
     put-digits-requires-6
     enum-told
     same-length

@@ -5,6 +5,18 @@ use borrow.Author.Needs.{needs}
 use Rattle.trials.proofs.main.Statement.{statement}
 use Rattle.trials.proofs.main.Tie as tie
 
+slice-aggregate-fit : tie.Need-slice-aggregate-fit
+slice-aggregate-fit c = search needs
+
+fit-requires : tie.Need-fit-requires
+fit-requires c κs = search needs
+
+returns : tie.Need-returns
+returns c = search needs
+
+from-requires : tie.Need-from-requires
+from-requires c κs = search needs
+
 slice-aggregate-power-on : tie.Need-slice-aggregate-power-on
 slice-aggregate-power-on c = search needs
 
@@ -37,13 +49,17 @@ turns-requires c κs =
     let kept = power-on-gives _ (c .before .before .before .before .before .before .before .power-on .ensures) in
     (kept, (search needs, search needs, search needs, search needs))
 
-returns : tie.Need-returns
-returns c = search needs
+returns-2 : tie.Need-returns-2
+returns-2 c = search needs
 
 pub main-spec : {M : Type 1} → statement M
 main-spec =
     tie.close
     (tie.spec
+    slice-aggregate-fit
+    fit-requires
+    returns
+    from-requires
     slice-aggregate-power-on
     slice-aggregate-power-on-2
     slice-aggregate-power-on-3
@@ -54,4 +70,4 @@ main-spec =
     slice-aggregate-turns-4
     slice-aggregate-turns-5
     turns-requires
-    returns)
+    returns-2)

@@ -5,8 +5,11 @@ use borrow.Author.Needs.{needs}
 use Rattle.trials.proofs.turn.Statement.{statement}
 use Rattle.trials.proofs.turn.Tie as tie
 
-read-record-requires : tie.Need-read-record-requires
-read-record-requires c κs = search needs
+slice-aggregate-piece : tie.Need-slice-aggregate-piece
+slice-aggregate-piece c = search needs
+
+piece-requires : tie.Need-piece-requires
+piece-requires c κs = search needs
 
 flushed-requires : tie.Need-flushed-requires
 flushed-requires c κs = search needs
@@ -17,13 +20,29 @@ same-length c = search needs
 returns : tie.Need-returns
 returns c = search needs
 
+array-read-made-of : tie.Need-array-read-made-of
+array-read-made-of c = search needs
+
+array-read-made-of-2 : tie.Need-array-read-made-of-2
+array-read-made-of-2 c = search needs
+
+array-read-made-of-3 : tie.Need-array-read-made-of-3
+array-read-made-of-3 c = search needs
+
+array-read-made-of-4 : tie.Need-array-read-made-of-4
+array-read-made-of-4 c = search needs
+
+made-of-requires : tie.Need-made-of-requires
+made-of-requires c κs = search needs
+
 one-requires : tie.Need-one-requires
 one-requires c κs = search needs
 
 resized-requires : tie.Need-resized-requires
 resized-requires c κs =
     let called = c .before .before .before .before .before .before .before .before .before .before .before .before in
-    called .before .before .before .before .before .before .before .before .before .before .before .before .before .before .pre .1
+    let asked = called .before .before .before .before .before .before .before .before .before .before in
+    asked .before .before .before .before .before .before .before .before .before .before .pre .1
 
 same-length-2 : tie.Need-same-length-2
 same-length-2 c = search needs
@@ -44,17 +63,24 @@ returns-2 : tie.Need-returns-2
 returns-2 c =
     let earlier = c .before .before .before .before .before .before .before .before .before .before in
     let called = earlier .before .before .before in
-    let had = called .before .before .before .before .before .before .before .before .before .before .before .before .before .before .pre .2 in
+    let asked = called .before .before .before .before .before .before .before .before .before .before in
+    let had = asked .before .before .before .before .before .before .before .before .before .before .pre .2 in
     (called .one .ensures, c .resized .ensures, (same-length-2 c ∙ had .0, same-length-3 c ∙ had .1, same-length-4 c ∙ had .2, same-length-5 c ∙ had .3))
 
 pub turn-spec : {M : Type 1} → statement M
 turn-spec =
     tie.close
     (tie.spec
-    read-record-requires
+    slice-aggregate-piece
+    piece-requires
     flushed-requires
     same-length
     returns
+    array-read-made-of
+    array-read-made-of-2
+    array-read-made-of-3
+    array-read-made-of-4
+    made-of-requires
     one-requires
     resized-requires
     same-length-2

@@ -1,0 +1,73 @@
+-- `streams::input::Input::piece` meets its contract; the measure is the number of turns left.
+-- Assumes nothing.
+use mathlib.Core.Path.{_≡_}
+use lib.ListN.{length}
+use Rattle.io.specs.Counts.{Counts}
+use borrow.Author.Needs.{needs}
+use Rattle.streams.proofs.input.Input.piece.Statement.{statement}
+use Rattle.streams.proofs.input.Input.piece.Tie as tie
+
+abbrev Inv-loop : tie.InvT-loop
+Inv-loop block buffer₀ p₀ left₀ buffer p left = (length buffer ≡ length buffer₀) × Counts (p .count) buffer
+
+abbrev μ-loop : tie.MeasureT-loop
+μ-loop block buffer₀ p₀ left₀ buffer p left = left
+
+filled-requires : tie.Need-filled-requires Inv-loop μ-loop
+filled-requires c κs = search needs
+
+arg-count-requires : tie.Need-arg-count-requires Inv-loop μ-loop
+arg-count-requires c κs = search needs
+
+loop-holds : tie.Need-loop-holds Inv-loop μ-loop
+loop-holds c = search needs
+
+is-over-requires : tie.Need-is-over-requires Inv-loop μ-loop
+is-over-requires c κs = search needs
+
+same-length : tie.Need-same-length Inv-loop μ-loop
+same-length c = search needs
+
+returns : tie.Need-returns Inv-loop μ-loop
+returns c = search needs
+
+following-requires : tie.Need-following-requires Inv-loop μ-loop
+following-requires c κs = search needs
+
+filled-requires-2 : tie.Need-filled-requires-2 Inv-loop μ-loop
+filled-requires-2 c κs = search needs
+
+sub-left : tie.Need-sub-left Inv-loop μ-loop
+sub-left c = search needs
+
+loop-less : tie.Need-loop-less Inv-loop μ-loop
+loop-less c = search needs
+
+loop-again : tie.Need-loop-again Inv-loop μ-loop
+loop-again c = search needs
+
+same-length-2 : tie.Need-same-length-2 Inv-loop μ-loop
+same-length-2 c = search needs
+
+returns-2 : tie.Need-returns-2 Inv-loop μ-loop
+returns-2 c = search needs
+
+pub piece-spec : {M : Type 1} → statement M
+piece-spec =
+    tie.close
+    (tie.spec
+    Inv-loop
+    μ-loop
+    filled-requires
+    arg-count-requires
+    loop-holds
+    is-over-requires
+    same-length
+    returns
+    following-requires
+    filled-requires-2
+    sub-left
+    loop-less
+    loop-again
+    same-length-2
+    returns-2)
