@@ -13,7 +13,8 @@ repository: what they make, they make there. Its output is a terminal, so that a
 standard error alike, and it is compared byte for byte. Each command must end with status 0, each part of a pipe too: one that is
 shown to fail says its status itself (`; echo $?`). Only what the prover says is not shown: `rt check` is silent here unless it fails.
 
-What a command in the background prints belongs to the command before which it came. So as many lines are waited for as are shown.
+What a command in the background prints belongs to the command that was given last before it came. So as many lines are waited for as
+are shown.
 
 At the end of a page no process may be left that it started, and outside target/ the tree must be as it was. A command elsewhere than
 in such a block is a fault too: nothing that a page shows is unchecked. So is a program without a page, a page that has not the form
@@ -24,6 +25,7 @@ import glob
 import os
 import re
 import select
+import shlex
 import shutil
 import signal
 import stat
@@ -41,7 +43,7 @@ SENTENCE = r"[A-Z](?:[^.\n]|\n(?!\n)|\.(?=\S))*\."  # a full stop ends it where 
 README_LINES = 150  # it has fewer
 
 # Seconds: for a command to end, for output from the background, for processes at the end of a page, and for lines beyond those shown.
-ENDS, COMES, LEAVES, GRACE = 300, 20, 5, 0.1
+ENDS, COMES, LEAVES, GRACE = 540, 20, 5, 0.1
 
 
 # ---- pages
@@ -218,10 +220,9 @@ def tree(top):
         if folder == top:
             folders[:] = [name for name in folders if name not in (".git", "target")]
         for name in folders + files:
-            path = os.path.join(folder, name)
-            status = os.lstat(path)
+            status = os.lstat(os.path.join(folder, name))
             is_folder = stat.S_ISDIR(status.st_mode)
-            found[os.path.relpath(path, top)] = None if is_folder else (status.st_ino, status.st_size, status.st_ctime_ns)
+            found[os.path.relpath(os.path.join(folder, name), top)] = "" if is_folder else (status.st_ino, status.st_size, status.st_ctime_ns)
     return found
 
 
@@ -241,7 +242,7 @@ def environment(place):
     if rt:
         os.mkdir(os.path.join(place, "bin"))
         with open(os.path.join(place, "bin/rt"), "w") as file:
-            file.write(SILENT_RT.format(rt=rt))
+            file.write(SILENT_RT.format(rt=shlex.quote(rt)))
         os.chmod(os.path.join(place, "bin/rt"), 0o755)
     kept = {name: value for name, value in os.environ.items() if name not in ("BASH_ENV", "ENV", "CDPATH")}
     return {**kept, "PATH": os.path.join(place, "bin") + ":" + os.environ["PATH"], "LC_ALL": "C", "PYTHONDONTWRITEBYTECODE": "1"}
@@ -260,13 +261,17 @@ def differences(command, printed, status):
 
 
 def run_commands(commands, folder, place):
-    """What differs, command by command. Once something does, output from the background is no longer waited for."""
+    """What differs, command by command. Once something does, output from the background is no longer waited for; a command that does not
+    end is the last."""
     shell, faults = Shell(folder, environment(place)), []
     try:
         for command in commands:
-            found = list(differences(command, *shell.run(command, not faults)))
+            printed, status = shell.run(command, not faults)
+            found = list(differences(command, printed, status))
             if found:
                 faults += [f"line {command.line}: $ {command.text}", *found]
+            if status is None:
+                break
         behind, left = shell.end()
         faults += [f"printed behind the last command: {line}" for line in behind.splitlines()]
         faults += [f"left running: {words}" for words in left]
@@ -294,7 +299,7 @@ def faults_of(top, page):
         faults += run_commands(commands, folder, place)
     after = tree(top)
     faults += [f"left in the tree, altered or removed: {name}" for name in sorted(before.keys() | after.keys())
-               if before.get(name, 0) != after.get(name, 0)]
+               if before.get(name) != after.get(name)]
     return faults, len(commands)
 
 

@@ -54,7 +54,7 @@ WRONG = {
     "fails in a pipe": ("    $ false | cat\n", "status 1, not 0"),
     "no such command": ("    $ no-such-command\n", "status 127, not 0"),
     "not a command": ("    $ echo 'one\n", "unexpected EOF"),
-    "fails behind a right one": ("    $ echo one\n    one\n    $ exit 3\n", "line 3: $ exit 3\n  it did not end, or it ended the shell"),
+    "ends the shell": ("    $ echo one\n    one\n    $ exit 3\n    $ echo\n", "line 3: $ exit 3\n  it did not end, or it ended the shell"),
     "late": ("    $ (sleep 3; echo one) &\n    $ true\n", "printed behind the last command: one"),
     "late and altered": ("    $ (sleep 0.5; echo one) &\n    two\n", "  shown:\n    two\n  printed:\n    one"),
     "left process": ("    $ sleep 617 &\n", "left running: sleep 617"),
