@@ -34,7 +34,7 @@ def equal(got, want, what):
 
 
 def said_last(command, said, message, what):
-    """The last line on standard error is the message. An independent program, which ends the command, puts its name before it."""
+    """The last line on standard error is the message; an independent program, the last word of the command, puts its name before it."""
     name = os.path.basename(command[-1])
     want = f"{name}: {message}" if name.endswith("-independent") else message
     equal(said.decode().rstrip("\n").split("\n")[-1], want, f"{what}: the last line on standard error")

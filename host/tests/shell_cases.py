@@ -79,12 +79,14 @@ def as_others():
 
 
 def unreadable_file(program):
-    """One that nobody has leave to read. Where root cannot give its leave up, there is no such file, and nothing is tried."""
+    """One that nobody has leave to read. Where root cannot give its leave up there is no such file, and a folder stands for it."""
     with folder(file=program.sample.given):
         os.chmod("file", 0)
         tried = subprocess.run(["cat", "file"], preexec_fn=as_others, capture_output=True, check=False)
         if tried.returncode != 0:
             program.fails(b"", "cannot open 'file': Permission denied", "file", preexec_fn=as_others)
+        else:
+            program.fails(b"", f"cannot read '.': {FOLDER}", ".")
 
 
 # ---- names
@@ -170,7 +172,7 @@ def long_argument(program):
 # ---- where somebody waits
 
 def fifo(program):
-    """A FIFO is answered like a pipe, each time before more is sent."""
+    """A FIFO is answered like a pipe, before more is sent."""
     given, answer, _, piece, piece_end = program.sample[:5]
     with folder(), untouched() as standard_input:
         os.mkfifo("fifo")
@@ -271,7 +273,7 @@ def dash_among(program):
         program.writes(b"1\n9999999999\nE030\n5\n10000000005\n", "a", "-", "b", input=LONGEST + ONE[:9])
         program.writes(b"5\nE030\n5\n", "-", "-", input=FIVE + ONE[:9])
         program.writes(b"5\n1\n6\n", "-", "a", "-", input=FIVE)
-        # where it is closed, a file before it may get its number; it is closed again then
+        # where it is closed, a file that is opened before it gets its descriptor, and must not be taken for it afterwards
         program.fails(b"1\n", "cannot read standard input: Bad file descriptor", "a", "-", stdin=None, preexec_fn=lambda: os.close(0))
 
 
@@ -309,7 +311,7 @@ def opened_in_turn(program):
 
 
 def fifo_behind_file(program):
-    """The answers to a file come before the next is waited for: a FIFO is opened when somebody opens it for writing."""
+    """The answers to a file come before the next one is waited for: to open a FIFO is to wait until somebody writes to it."""
     with folder(a=ONE), untouched() as standard_input:
         os.mkfifo("fifo")
         with program.talk("a", "fifo", stdin=standard_input) as talk:
