@@ -1,18 +1,17 @@
 /*
- * trials_independent.c: the program trials around the independent box: records of four bytes on standard input (what to do, a byte, and
- * two bytes more; the last three are also one number), and after each call a line: the refusal, the lines run, how many bytes were
- * written, a sum of each whole buffer, and the bytes that were written. A record cut short by the end of the input is none.
+ * trials_independent.c: the program trials around the independent box: records of four bytes as input (what to do, a byte, and two
+ * bytes more; the last three are also one number), and after each call a line: the refusal, the lines run, how many bytes were written,
+ * a sum of each whole buffer, and the bytes that were written. A record cut short by the end of the input is none.
  */
-#define _POSIX_C_SOURCE 200809L
 #include "box.h"
+#include "shell.h"
 
-#include <errno.h>
-#include <signal.h>
 #include <stdio.h>
 #include <stdlib.h>
 #include <string.h>
 
 enum { PROGRAM, SAVED, LOG, OUT, BUFFERS };
+enum { RECORD = 4, BLOCK = 4096, NUMBERS = 2 * 11 + 21 + BUFFERS * 11 }; /* the numbers of a line, each of all its digits and a space */
 
 static uint8_t program[1608], saved[1608], log_area[65544], out[128];
 
@@ -27,12 +26,6 @@ static struct {
 };
 
 static struct box *box;
-
-static int fail(const char *what)
-{
-    fprintf(stderr, "trials-independent: %s: %s\n", what, strerror(errno));
-    return EXIT_FAILURE;
-}
 
 static struct box_said call(uint8_t op, uint8_t byte, uint32_t number)
 {
@@ -61,15 +54,17 @@ static unsigned sum(const uint8_t *bytes, size_t size)
 
 static void tell(struct box_said said)
 {
-    printf("%u %u %zu ", said.refusal, said.lines, said.written);
+    char numbers[NUMBERS + 1];
+    int length = snprintf(numbers, sizeof numbers, "%u %u %zu ", said.refusal, said.lines, said.written);
     for (int i = 0; i < BUFFERS; i++)
-        printf("%u ", sum(buffer[i].bytes, buffer[i].size));
-    fwrite(out, 1, said.written, stdout);
-    putchar('\n');
+        length += snprintf(numbers + length, sizeof numbers - (size_t)length, "%u ", sum(buffer[i].bytes, buffer[i].size));
+    shell_put(numbers, (size_t)length);
+    shell_put(out, said.written);
+    shell_put("\n", 1);
 }
 
 /* One record: a call, a byte altered, or a length lent from now on; what is beyond a buffer is ignored, and so is any other record. */
-static void take(const uint8_t record[4])
+static void take(const uint8_t record[RECORD])
 {
     static const char calls[] = "obtne", alters[] = "AVG", lends[] = "PSLR";
     const uint32_t at = record[2] * 256u + record[3], number = record[1] * 65536u + at;
@@ -84,22 +79,33 @@ static void take(const uint8_t record[4])
         buffer[found - lends].lent = number;
 }
 
+/* A record is put together from its bytes: one may be cut by the end of a block. */
+static void take_all(void)
+{
+    uint8_t block[BLOCK], record[RECORD];
+    size_t count, length = 0;
+    while ((count = shell_read(block, sizeof block)) > 0) {
+        for (size_t i = 0; i < count; i++) {
+            record[length++] = block[i];
+            if (length == RECORD) {
+                take(record);
+                length = 0;
+            }
+        }
+    }
+}
+
 int main(int argc, char **argv)
 {
-    uint8_t record[4];
-    (void)argv;
-    if (argc != 1) {
-        fputs("usage: trials-independent < INPUT\n", stderr);
-        return 2;
-    }
+    shell_start("trials-independent", "[FILE]", 1, argc, argv);
     box = malloc(box_size());
-    if (box == NULL)
-        return fail("no memory");
-    signal(SIGPIPE, SIG_IGN); /* a closed output is told by the write that fails */
+    if (box == NULL) {
+        perror("trials-independent: no memory");
+        return EXIT_FAILURE;
+    }
+    shell_next_input();
     box_power_on(box, out, 0, saved, 0, log_area, 0); /* before any power-on: what a refused one leaves */
-    while (!ferror(stdout) && fread(record, 1, sizeof record, stdin) == sizeof record)
-        take(record);
-    if (ferror(stdin))
-        return fail("cannot read");
-    return fflush(stdout) != 0 || ferror(stdout) ? fail("cannot write") : EXIT_SUCCESS;
+    take_all();
+    shell_flush();
+    return EXIT_SUCCESS;
 }

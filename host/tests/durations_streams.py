@@ -1,13 +1,7 @@
-"""Input and output of the durations as streams: each case is given the words of a command.
-
-A command may prove the program first, so the first answer is waited for as long as a case may take. Where the command is not the program
-itself, the program is one of the processes that the command started.
-"""
+"""Input and output of the durations as streams: each case is given the words of a command."""
 import fcntl
 import itertools
 import os
-import platform
-import select
 import subprocess
 import tempfile
 import termios
@@ -15,12 +9,7 @@ import threading
 import time
 
 from durations_cases import FIVE, LONGEST, ONE, REFUSED
-from programs import equal
-
-SECONDS = 300
-# The most that the peak may grow, in kB: nothing but what a page more or less makes. The proved program is one for x86-64; on another
-# machine an emulator runs it, which keeps what it has translated.
-SLACK = 64 if platform.machine() == "x86_64" else 8192
+from programs import SECONDS, Talk, constant, equal, peaks, said_last
 
 
 def works(command):
@@ -29,84 +18,13 @@ def works(command):
     equal((done.returncode, done.stdout), (0, b"5\n5\n"), "status and output of a program that can be read and answered")
 
 
-def said_last(said, what, word):
-    last = said.decode().rstrip("\n").split("\n")[-1]
-    if word not in last:
-        raise AssertionError(f"{what}: the last line on standard error is {last!r}")
-
-
-def fails(command, what, word, **streams):
-    """The command ends with status 1, and the last line that it says on standard error has the word. What it does."""
+def fails(command, what, message, **streams):
+    """The command ends with status 1, and the last line that it says on standard error is the message. What it does."""
     works(command)
     done = subprocess.run(command, stderr=subprocess.PIPE, check=False, timeout=SECONDS, **streams)
     equal(done.returncode, 1, f"{what}: status")
-    said_last(done.stderr, what, word)
+    said_last(command, done.stderr, message, what)
     return done
-
-
-class Talk:
-    """A command that is spoken with: nothing that it is sent is held back, and a line that does not come in time fails."""
-
-    def __init__(self, command, **streams):
-        self.process = subprocess.Popen(command, stdin=subprocess.PIPE, stdout=subprocess.PIPE, bufsize=0, **streams)
-        self.waiting = b""
-
-    def __enter__(self):
-        return self
-
-    def __exit__(self, *_):
-        if self.process.poll() is None:
-            self.process.stdin.close()
-            self.process.kill()
-        self.process.wait()
-
-    def send(self, programs):
-        rest = memoryview(programs)
-        try:
-            while rest:
-                rest = rest[self.process.stdin.write(rest):]
-        except BrokenPipeError:
-            raise AssertionError(f"{len(rest)} of {len(programs)} bytes were not read") from None
-
-    def lines(self, count):
-        """The next lines that it writes."""
-        while self.waiting.count(b"\n") < count:
-            if not select.select([self.process.stdout], [], [], SECONDS)[0]:
-                raise AssertionError(f"nothing was written in {SECONDS} s; so far {self.waiting!r}")
-            piece = self.process.stdout.read(65536)
-            if not piece:
-                raise AssertionError(f"the output ends with {self.waiting!r}")
-            self.waiting += piece
-        *lines, self.waiting = self.waiting.split(b"\n", count)
-        return b"".join(line + b"\n" for line in lines)
-
-    def end(self):
-        """What it writes when its input ends; its status is 0."""
-        self.process.stdin.close()
-        rest = self.waiting + self.process.stdout.read()
-        equal(self.process.wait(SECONDS), 0, "status")
-        return rest
-
-
-def processes(root):
-    """The process and all that it started."""
-    found = [root]
-    for number in found:
-        with open(f"/proc/{number}/task/{number}/children", encoding="ascii") as children:
-            found += [int(child) for child in children.read().split()]
-    return found
-
-
-def peaks(root):
-    """The most memory that each of them has had, in kB, by its number and its program; none where the system does not tell."""
-    found = {}
-    if not os.path.exists("/proc/thread-self/children"):
-        return found
-    for number in processes(root):
-        with open(f"/proc/{number}/status", encoding="ascii", errors="replace") as status:
-            most = sum(int(line.split()[1]) for line in status if line.startswith("VmHWM:"))
-        found[number, os.readlink(f"/proc/{number}/exe")] = most
-    return found
 
 
 # ---- the cases
@@ -178,12 +96,7 @@ def constant_memory(command):
                 first = peaks(talk.process.pid)
         last = peaks(talk.process.pid)
         equal(talk.end(), b"E043\n", "the total")
-    both = first.keys() & last.keys()
-    if last and not both:
-        raise AssertionError("no process was there from 100 programs to 20,000")
-    for which in both:
-        if last[which] > first[which] + SLACK:
-            raise AssertionError(f"{which[1]}: the peak is {first[which]} kB after 100 programs and {last[which]} kB after 20,000")
+    constant(first, last, "from 100 programs to 20,000")
 
 
 def large_file(command):
@@ -208,25 +121,25 @@ def large_file(command):
 def unreadable_input(command):
     """A folder: a message, no output."""
     folder = os.open("/", os.O_RDONLY)
-    done = fails(command, "a folder as input", "read", stdin=folder, stdout=subprocess.PIPE)
+    done = fails(command, "a folder as input", "cannot read standard input: Is a directory", stdin=folder, stdout=subprocess.PIPE)
     os.close(folder)
     equal(done.stdout, b"", "output")
 
 
 def closed_output(command):
-    fails(command, "output closed", "write", input=ONE, preexec_fn=lambda: os.close(1))
+    fails(command, "output closed", "cannot write standard output: Bad file descriptor", input=ONE, preexec_fn=lambda: os.close(1))
 
 
 def full_output(command):
     with open("/dev/full", "wb") as full:
-        fails(command, "output full", "write", input=LONGEST * 1000, stdout=full)
+        fails(command, "output full", "cannot write standard output: No space left on device", input=LONGEST * 1000, stdout=full)
 
 
 def reader_gone(command):
     """A pipe that nobody reads any more: a write that fails, and no signal."""
     reader, writer = os.pipe()
     os.close(reader)
-    fails(command, "the reader has gone", "write", input=LONGEST * 1000, stdout=writer)
+    fails(command, "the reader has gone", "cannot write standard output: Broken pipe", input=LONGEST * 1000, stdout=writer)
     os.close(writer)
 
 
@@ -245,7 +158,7 @@ def reader_leaves(command):
         except subprocess.TimeoutExpired:
             raise AssertionError("it waits for more input") from None
         listener.join()
-        said_last(b"".join(said), "the reader leaves", "write")
+        said_last(command, b"".join(said), "cannot write standard output: Broken pipe", "the reader leaves")
 
 
 STREAMS = [empty_input, answers_at_once, total_at_once, odd_pieces, single_bytes, constant_memory, large_file, unreadable_input,

@@ -22,7 +22,7 @@ import loglist_older
 from loglist_cases import CASES as PRESENT
 from loglist_cases import LONGEST, ONE, ONE_LINE
 from loglist_records import changes, gap, lines
-from programs import TOP, equal, of_program, shown
+from programs import TOP, equal, of_program, said_last, shown
 
 CASES = PRESENT + loglist_marks.CASES + loglist_older.CASES
 
@@ -61,37 +61,37 @@ def works(command):
     equal((done.returncode, done.stdout), (0, ONE_LINE.encode()), "status and output of a log that can be read and written")
 
 
-def fails(command, what, word, **streams):
-    """The command ends with status 1, and the last line that it says on standard error has the word. What it does."""
+def fails(command, what, message, **streams):
+    """The command ends with status 1, and the last line that it says on standard error is the message. What it does."""
     works(command)
     done = subprocess.run(command, stderr=subprocess.PIPE, check=False, timeout=300, **streams)
     equal(done.returncode, 1, f"{what}: status")
-    last = done.stderr.decode().rstrip("\n").split("\n")[-1]
-    if word not in last:
-        raise AssertionError(f"{what}: the last line on standard error is {last!r}")
+    said_last(command, done.stderr, message, what)
     return done
 
 
 def unreadable_input(command):
     """A folder: a message, no output."""
-    done = fails(command, "a folder as input", "read", stdin=os.open("/", os.O_RDONLY), stdout=subprocess.PIPE)
+    folder = os.open("/", os.O_RDONLY)
+    done = fails(command, "a folder as input", "cannot read standard input: Is a directory", stdin=folder, stdout=subprocess.PIPE)
+    os.close(folder)
     equal(done.stdout, b"", "output")
 
 
 def closed_output(command):
-    fails(command, "output closed", "write", input=ONE, preexec_fn=lambda: os.close(1))
+    fails(command, "output closed", "cannot write standard output: Bad file descriptor", input=ONE, preexec_fn=lambda: os.close(1))
 
 
 def full_output(command):
     with open("/dev/full", "wb") as full:
-        fails(command, "output full", "write", input=LONGEST, stdout=full)
+        fails(command, "output full", "cannot write standard output: No space left on device", input=LONGEST, stdout=full)
 
 
 def reader_gone(command):
     """A pipe that nobody reads any more: a write that fails, and no signal."""
     reader, writer = os.pipe()
     os.close(reader)
-    fails(command, "the reader has gone", "write", input=LONGEST, stdout=writer)
+    fails(command, "the reader has gone", "cannot write standard output: Broken pipe", input=LONGEST, stdout=writer)
     os.close(writer)
 
 

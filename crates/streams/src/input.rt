@@ -207,6 +207,22 @@ impl Input {
         }
     }
 
+    // What is gathered goes out, since a file may wait to be opened; then the next file is opened and read.
+    fn read_next(self, output: Output, block: &[u8], buffer: &mut [u8]) -> Piece
+        ensures counts { λ r. ⌜ Counts (r .count) (now (buffer .exit)) ⌝ }
+    {
+        let output = output.flushed(block);
+        if !output.open {
+            return Piece {
+                input: self,
+                output,
+                count: 0,
+            };
+        }
+        let input = self.following();
+        input.filled(output, block, buffer)
+    }
+
     // The next bytes of the input, as many as the buffer takes, or fewer where a file ends. What is gathered goes out before, where somebody
     // may wait for it. There are no more files than arguments, so that many turns suffice.
     pub fn piece(self, output: Output, block: &[u8], buffer: &mut [u8]) -> Piece
@@ -218,8 +234,7 @@ impl Input {
             if !p.is_over() {
                 return p;
             }
-            let input = p.input.following();
-            p = input.filled(p.output, block, buffer);
+            p = p.input.read_next(p.output, block, buffer);
             left -= 1;
         }
         p

@@ -31,11 +31,8 @@ same-length c = search needs
 returns : tie.Need-returns Inv-loop μ-loop
 returns c = search needs
 
-following-requires : tie.Need-following-requires Inv-loop μ-loop
-following-requires c κs = search needs
-
-filled-requires-2 : tie.Need-filled-requires-2 Inv-loop μ-loop
-filled-requires-2 c κs = search needs
+read-next-requires : tie.Need-read-next-requires Inv-loop μ-loop
+read-next-requires c κs = search needs
 
 sub-left : tie.Need-sub-left Inv-loop μ-loop
 sub-left c = search needs
@@ -64,8 +61,7 @@ piece-spec =
     is-over-requires
     same-length
     returns
-    following-requires
-    filled-requires-2
+    read-next-requires
     sub-left
     loop-less
     loop-again
