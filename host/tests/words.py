@@ -1,6 +1,10 @@
 #!/usr/bin/env python3
-"""words.py COMMAND...: arguments as decimal numbers, on a program that prints a line for each argument: the number in decimal, a space, and
-sixteen capital hex digits; or `no number`. Status 0 if all are right."""
+"""Arguments as decimal numbers: a line for each, the number in decimal and its two words of eight capital hex digits. Status 0 if all are right.
+
+    words.py COMMAND...          on a program that prints the lines of all its arguments, `no number` for one that is none
+    words.py --each COMMAND...   on the program of words.sh, which takes one, or 100000 without it, and tells what is wrong on standard error
+"""
+import os
 import subprocess
 import sys
 
@@ -21,18 +25,58 @@ OTHERS = ["", " ", "+1", "1 ", " 1", "1.", "1.0", "1e3", "1,000", "1_000", "0x10
           "\n", "1\n", "-", "١", "²", "1" * 5000 + "x", "\udcff", "1\udcff", "\udcb1"]
 
 
-def main(command):
-    if not command:
-        sys.exit(__doc__)
-    words = [word for word, _ in NUMBERS] + OTHERS
-    want = [f"{number} {number:016X}" for _, number in NUMBERS] + ["no number"] * len(OTHERS)
+USAGE = b"how to call it: words [--next] [NUMBER]\n"
+
+
+def line_of(number):
+    return f"{number} {number // 4294967296:08X} {number % 4294967296:08X}"
+
+
+def ran(command, words):
     done = subprocess.run([*command, *words], capture_output=True, check=False, timeout=300)
-    got = done.stdout.decode().split("\n")
+    return done.stdout.decode(), done.stderr, done.returncode
+
+
+def all_at_once(command):
+    words = [word for word, _ in NUMBERS] + OTHERS
+    want = [line_of(number) for _, number in NUMBERS] + ["no number"] * len(OTHERS)
+    out, said, status = ran(command, words)
+    got = out.split("\n")
     for word, line, right in zip(words, got, want):
         if line != right:
             sys.exit(f"{word[:60]!r}, {len(word)} characters: {line!r}, not {right!r}")
-    if (len(got) - 1, done.returncode, done.stderr) != (len(want), 0, b""):
-        sys.exit(f"{len(got) - 1} lines for {len(want)} arguments, status {done.returncode}, {done.stderr!r}")
+    if (len(got) - 1, status, said) != (len(want), 0, b""):
+        sys.exit(f"{len(got) - 1} lines for {len(want)} arguments, status {status}, {said!r}")
+
+
+def wrong(what, word):
+    """Of a long argument the first 4,096 bytes are told."""
+    return "", what + b"'" + os.fsencode(word)[:4096] + b"'\n" + USAGE, 0
+
+
+def each(command):
+    cases = [([], (line_of(100000) + "\n", b"", 0)), (["--next"], (line_of(100000) + "\n", b"", 0))]
+    for word, number in NUMBERS:
+        right = (line_of(number) + "\n", b"", 0)
+        cases += [([word], right), (["--next", word], right), ([word, "2"], wrong(b"one argument too many: ", "2")),
+                  ([word, "--next"], wrong(b"there is no option ", "--next"))]
+    for word in OTHERS:
+        cases += [([word], wrong(b"no number: ", word)), (["--next", word], wrong(b"no number: ", word))]
+    for word in ("--", "-1", "--nex", "--next1", "--" + "n" * 5000):
+        cases += [([word], wrong(b"there is no option ", word)), (["1", word], wrong(b"there is no option ", word))]
+    for words, right in cases:
+        got = ran(command, words)
+        if got != right:
+            sys.exit(f"{[word[:60] for word in words]!r}: {got!r}, not {right!r}")
+
+
+def main(words):
+    if words[:1] == ["--each"] and len(words) > 1:
+        each(words[1:])
+    elif words and words[0] != "--each":
+        all_at_once(words)
+    else:
+        sys.exit(__doc__)
 
 
 if __name__ == "__main__":

@@ -223,12 +223,11 @@ impl Input {
         input.filled(output, block, buffer)
     }
 
-    // The next bytes of the input, as many as the buffer takes, or fewer where a file ends. What is gathered goes out before, where somebody
-    // may wait for it. There are no more files than arguments, so that many turns suffice.
-    pub fn piece(self, output: Output, block: &[u8], buffer: &mut [u8]) -> Piece
+    // The same until a file gives a byte. There are no more files than arguments, so that many turns suffice.
+    fn read_on(self, output: Output, block: &[u8], buffer: &mut [u8]) -> Piece
         ensures counts { λ r. ⌜ Counts (r .count) (now (buffer .exit)) ⌝ }
     {
-        let mut p = self.filled(output, block, buffer);
+        let mut p = self.read_next(output, block, buffer);
         let mut left = os::arg_count();
         while left > 0 {
             if !p.is_over() {
@@ -238,6 +237,18 @@ impl Input {
             left -= 1;
         }
         p
+    }
+
+    // The next bytes of the input, as many as the buffer takes, or fewer where a file ends. What is gathered goes out before, where somebody
+    // may wait for it.
+    pub fn piece(self, output: Output, block: &[u8], buffer: &mut [u8]) -> Piece
+        ensures counts { λ r. ⌜ Counts (r .count) (now (buffer .exit)) ⌝ }
+    {
+        let p = self.filled(output, block, buffer);
+        if !p.is_over() {
+            return p;
+        }
+        p.input.read_on(p.output, block, buffer)
     }
 }
 

@@ -1,11 +1,11 @@
--- `streams::input::Input::piece` meets its contract; the measure is the number of turns left.
+-- `streams::input::Input::read_on` meets its contract; the measure is the number of turns left.
 -- Assumes nothing.
 use mathlib.Core.Path.{_≡_}
 use lib.ListN.{length}
 use Rattle.io.specs.Counts.{Counts}
 use borrow.Author.Needs.{needs}
-use Rattle.streams.proofs.input.Input.piece.Statement.{statement}
-use Rattle.streams.proofs.input.Input.piece.Tie as tie
+use Rattle.streams.proofs.input.Input.read_on.Statement.{statement}
+use Rattle.streams.proofs.input.Input.read_on.Tie as tie
 
 abbrev Inv-loop : tie.InvT-loop
 Inv-loop block buffer₀ p₀ left₀ buffer p left = (length buffer ≡ length buffer₀) × Counts (p .count) buffer
@@ -13,8 +13,8 @@ Inv-loop block buffer₀ p₀ left₀ buffer p left = (length buffer ≡ length 
 abbrev μ-loop : tie.MeasureT-loop
 μ-loop block buffer₀ p₀ left₀ buffer p left = left
 
-filled-requires : tie.Need-filled-requires Inv-loop μ-loop
-filled-requires c κs = search needs
+read-next-requires : tie.Need-read-next-requires Inv-loop μ-loop
+read-next-requires c κs = search needs
 
 arg-count-requires : tie.Need-arg-count-requires Inv-loop μ-loop
 arg-count-requires c κs = search needs
@@ -31,8 +31,8 @@ same-length c = search needs
 returns : tie.Need-returns Inv-loop μ-loop
 returns c = search needs
 
-read-next-requires : tie.Need-read-next-requires Inv-loop μ-loop
-read-next-requires c κs = search needs
+read-next-requires-2 : tie.Need-read-next-requires-2 Inv-loop μ-loop
+read-next-requires-2 c κs = search needs
 
 sub-left : tie.Need-sub-left Inv-loop μ-loop
 sub-left c = search needs
@@ -49,19 +49,19 @@ same-length-2 c = search needs
 returns-2 : tie.Need-returns-2 Inv-loop μ-loop
 returns-2 c = search needs
 
-pub piece-spec : {M : Type 1} → statement M
-piece-spec =
+pub read-on-spec : {M : Type 1} → statement M
+read-on-spec =
     tie.close
     (tie.spec
     Inv-loop
     μ-loop
-    filled-requires
+    read-next-requires
     arg-count-requires
     loop-holds
     is-over-requires
     same-length
     returns
-    read-next-requires
+    read-next-requires-2
     sub-left
     loop-less
     loop-again
