@@ -4,15 +4,15 @@ use Prim.Native.Nat.{ℕ, _+_, _-_, _≤_, _<_}
 use native.Mathlib.Omega.{arith}
 use mathlib.Core.Path.{_≡_, refl, sym, ap, _∙_}
 use mathlib.Core.Bool.{Bool, true, false}
-use mathlib.Core.List.{List, [], _∷_}
+use mathlib.Core.List.{List, [], _∷_, _++_}
 use lib.Dec.{leb}
 use borrow.Author.Tests.{leb-true, leb-false, le-leb, lt-leb}
 use Rattle.formats.specs.Checks.{refused, passed, _>>_, _orElse_}
 use Rattle.duration.specs.declared.Answer.{Answer}
 use Rattle.duration.specs.declared.Answer.the-variants.{Takes, Refused}
 use Rattle.duration.specs.Report.{report, answerOf}
-use Rattle.duration.specs.Total.{mostTotal, adds, grandTotal, toldTotal, cappedTotal, kept}
-use Rattle.duration.proofs.Capping.{capped-le, capped-small, capped-large, capped-left}
+use Rattle.duration.specs.Total.{mostTotal, adds, grandTotal, toldTotal, cappedTotal}
+use Rattle.duration.proofs.Capping.{capped-small, capped-large, capped-left}
 
 -- "a refused program adds nothing"
 pub adds-none : (e : ℕ) → adds (Refused e) ≡ 0
@@ -35,34 +35,35 @@ module _ (p : List ℕ) (ps : List (List ℕ)) where
   unfolding grandTotal
   total-refused e is = rw is (let z : 0 + grandTotal ps ≡ grandTotal ps = omega arith in z)
 
-kept-so : (t : ℕ) (ps : List (List ℕ)) → t ≤ mostTotal + 1 → kept t ps ≡ cappedTotal (t + grandTotal ps)
-unfolding kept grandTotal
-kept-so t [] le = let z : t + 0 ≡ t = omega arith in sym (ap cappedTotal z ∙ capped-small mostTotal t le)
-kept-so t (p ∷ ps) le =
-    let a = adds (answerOf (report p)) in
-    let z : t + a + grandTotal ps ≡ t + (a + grandTotal ps) = omega arith in
-    kept-so (cappedTotal (t + a)) ps (capped-le mostTotal (t + a)) ∙ capped-left mostTotal (t + a) (grandTotal ps) ∙ ap cappedTotal z
+-- of none, as it is kept
+pub none-kept : cappedTotal (grandTotal []) ≡ 0
+none-kept = ap cappedTotal total-none ∙ capped-small mostTotal 0 (omega arith)
 
--- what is kept is the grand total, up to one more than is told,
-pub kept-total : (ps : List (List ℕ)) → kept 0 ps ≡ cappedTotal (grandTotal ps)
-kept-total ps = let z : 0 + grandTotal ps ≡ grandTotal ps = omega arith in kept-so 0 ps (omega arith) ∙ ap cappedTotal z
+-- with one program more at the end
+total-last : (ps : List (List ℕ)) (p : List ℕ) → grandTotal (ps ++ (p ∷ [])) ≡ grandTotal ps + adds (answerOf (report p))
+unfolding grandTotal
+total-last [] p = omega arith
+total-last (q ∷ qs) p = omega (arith, total-last qs p)
 
--- and tells what the grand total tells
+-- and so as it is kept
+pub total-more : (ps : List (List ℕ)) (p : List ℕ)
+    → cappedTotal (cappedTotal (grandTotal ps) + adds (answerOf (report p))) ≡ cappedTotal (grandTotal (ps ++ (p ∷ [])))
+total-more ps p = capped-left mostTotal (grandTotal ps) (adds (answerOf (report p))) ∙ ap cappedTotal (sym (total-last ps p))
+
+-- more than is told
 refused-over : (m : ℕ) → mostTotal < m → toldTotal m ≡ refused 43
 unfolding toldTotal _>>_ _orElse_
 refused-over m lt = rw (lt-leb m mostTotal lt)
 
-told-same : (n : ℕ) → toldTotal (cappedTotal n) ≡ toldTotal n
-told-same n = go (leb n mostTotal) refl
+-- what is kept tells what the grand total tells
+pub total-told : (n : ℕ) → toldTotal (cappedTotal n) ≡ toldTotal n
+total-told n = go (leb n mostTotal) refl
   where
     go : (t : Bool) → leb n mostTotal ≡ t → toldTotal (cappedTotal n) ≡ toldTotal n
     go true e = ap toldTotal (capped-small mostTotal n (omega (arith, leb-true n mostTotal e)))
     go false e =
         let lt = leb-false n mostTotal e in
         ap toldTotal (capped-large mostTotal n (omega arith)) ∙ refused-over (mostTotal + 1) (omega arith) ∙ sym (refused-over n lt)
-
-pub total-told : (ps : List (List ℕ)) → toldTotal (kept 0 ps) ≡ toldTotal (grandTotal ps)
-total-told ps = ap toldTotal (kept-total ps) ∙ told-same (grandTotal ps)
 
 -- ---- what the code makes of a total
 

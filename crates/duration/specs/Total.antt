@@ -28,11 +28,6 @@ toldTotal n = do
   leb n mostTotal orElse 43
   passed n
 
--- how it is kept
+-- how it is kept: up to one more than is told
 abbrev pub cappedTotal : ℕ → ℕ
 cappedTotal n = cappedAt mostTotal n
-
--- the total of programs that come one behind the other, from a total t on, as it is kept
-unfoldable pub kept : ℕ → List (List ℕ) → ℕ
-kept t [] = t
-kept t (p ∷ ps) = kept (cappedTotal (t + adds (answerOf (report p)))) ps

@@ -2,7 +2,7 @@
 // standard output how many ticks each takes, or why that is not told, and then the grand total, a line each. No more than one program is kept.
 // What is told of a program is in contracts, by specs/Telling.antt; which bytes were read, and which went out, is in none, since C's have none.
 ghost use Rattle.streams.specs.Gathering.{Puts};
-ghost use Rattle.durations.specs.Telling.{lineOf, Tells};
+ghost use Rattle.durations.specs.Telling.{lineOf, Tells, Turns, Ends};
 use duration::Answer;
 use streams::Output;
 use streams::arguments;
@@ -34,7 +34,8 @@ fn put_answer(output: Output, block: &mut [u8], answer: Answer) -> Output
 
 // The line of a program, or of a last piece that is none, and the total with it.
 fn told(output: Output, block: &mut [u8], total: u64, program: &[u8]) -> Tally
-    ensures tells { λ r. ⌜ Tells output (now (block .entry)) total (now (program .entry)) r (now (block .exit)) ⌝ }
+    ensures tells { λ r. ⌜ Tells output (now (block .entry)) total (now (program .entry)) (r .output) (r .total)
+        (now (block .exit)) ⌝ }
 {
     let answer = duration::report(program);
     let output = put_answer(output, block, answer);
@@ -43,7 +44,9 @@ fn told(output: Output, block: &mut [u8], total: u64, program: &[u8]) -> Tally
 }
 
 // The next program, as far as there is one. None is the end of the input, or a failure.
-fn turn(input: Input, output: Output, block: &mut [u8], total: u64) -> Progress {
+fn turn(input: Input, output: Output, block: &mut [u8], total: u64) -> Progress
+    ensures turns { λ r. ⌜ Turns output (now (block .entry)) total r (now (block .exit)) ⌝ }
+{
     let mut program = [0u8; lines::PROGRAM];
     let p = input.piece(output, block, &mut program);
     let input = p.input;
@@ -68,7 +71,9 @@ fn turn(input: Input, output: Output, block: &mut [u8], total: u64) -> Progress 
 }
 
 // Input to its end. A proved loop has to end, so it counts its turns down, from a number that no run uses up.
-fn turns(input: Input, block: &mut [u8]) -> Progress {
+fn turns(input: Input, block: &mut [u8]) -> Progress
+    ensures ends { λ r. ⌜ Ends r (now (block .exit)) ⌝ }
+{
     let output = Output::new();
     let mut n = Progress {
         input,

@@ -1,14 +1,16 @@
 -- What waits after bytes are put, in the three ways that `put` goes.
 -- Assumes nothing.
 use mathlib.Core.List.{List, [], _++_, append-nil, append-assoc}
-use mathlib.Core.Path.{_≡_, sym, ap, ap₂, _∙_}
+use mathlib.Core.Logic.{_⊎_, inl, inr}
+use mathlib.Core.Path.{_≡_, refl, sym, ap, ap₂, _∙_}
 use Prim.Native.Nat.{ℕ, _+_, _-_, _≤_, _<_}
 use native.Mathlib.Omega.{arith}
 use lib.ListN.{length, take, drop, length-take}
 use lib.Seq.{length-take-le, take-length, take-at, take-append-add}
 use borrow.Author.Tests.{le-leb, lt-leb}
 use borrow.Rule.Slice.PartMut.{putMid}
-use Rattle.streams.specs.Gathering.{waitsAfter}
+use Rattle.streams.specs.declared.Output.{Output}
+use Rattle.streams.specs.Gathering.{waitsAfter, Passes}
 
 -- the start of what was copied is the bytes
 pub copied : (bytes rest : List ℕ) → take (length bytes) (take (length bytes) bytes ++ rest) ≡ bytes
@@ -56,3 +58,18 @@ pub nothing-waits : (used : ℕ) (block : List ℕ) → waitsAfter (length block
 unfolding waitsAfter
 nothing-waits used block =
     rw (le-leb (length (take used block) + 0) (length block) (omega (arith, length-take used block))) (append-nil (take used block))
+
+-- ---- reading
+
+-- an output that is left alone
+pub passes-same : (o : Output) → Passes o o
+passes-same o = (inl refl, λ e. e)
+
+-- one after the other
+pub passes-both : {o m r : Output} → Passes o m → Passes m r → Passes o r
+passes-both {o} {m} {r} (first, was) (second, is) = (joined first second, λ e. was (is e))
+  where
+    joined : (m ≡ o) ⊎ (m .used ≡ 0) → (r ≡ m) ⊎ (r .used ≡ 0) → (r ≡ o) ⊎ (r .used ≡ 0)
+    joined f (inr z) = inr z
+    joined (inl e) (inl e′) = inl (e′ ∙ e)
+    joined (inr z) (inl e′) = inr (ap (λ x. x .used) e′ ∙ z)

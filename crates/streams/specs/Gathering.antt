@@ -2,6 +2,7 @@
 use mathlib.Core.Bool.{true}
 use mathlib.Core.List.{List, [], _++_}
 use mathlib.Core.Path.{_≡_}
+use mathlib.Core.Logic.{_⊎_}
 use Prim.Native.Nat.{ℕ, _+_, _≤_}
 use lib.Dec.{leb}
 use lib.ListN.{length, take}
@@ -26,3 +27,7 @@ pub record Puts (o : Output) (block bytes : List ℕ) (r : Output) (block′ : L
   pub waits : gathered r block′ ≡ waitsAfter (length block) (gathered o block) bytes
   pub failed : r .open ≡ true → o .open ≡ true
   pub stays : length (gathered o block) + length bytes ≤ length block → r .open ≡ o .open
+
+-- what reading leaves of an output: as it was, or nothing waits any more, since it has gone out; no output that failed is open again
+abbrev pub Passes : Output → Output → Type 0
+Passes o r = ((r ≡ o) ⊎ (r .used ≡ 0)) × (r .open ≡ true → o .open ≡ true)

@@ -1,5 +1,6 @@
 // The input of a program: the files that its arguments name, one after the other, or standard input where none is named.
 ghost use Rattle.io.specs.Counts.{Counts};
+ghost use Rattle.streams.specs.Gathering.{Passes};
 use crate::Output;
 use crate::arguments;
 use libc::STDIN_FILENO;
@@ -185,12 +186,9 @@ impl Input {
     // What is gathered goes out, where somebody may wait for it; then the buffer is filled, as far as this file goes.
     fn filled(self, output: Output, block: &[u8], buffer: &mut [u8]) -> Piece
         ensures counts { λ r. ⌜ Counts (r .count) (now (buffer .exit)) ⌝ }
+        ensures passes { λ r. ⌜ Passes output (r .output) ⌝ }
     {
-        let output = if self.awaited {
-            output.flushed(block)
-        } else {
-            output
-        };
+        let output = output.passed(block, self.awaited);
         if self.ended || self.failed || !output.open {
             return Piece {
                 input: self,
@@ -210,6 +208,7 @@ impl Input {
     // What is gathered goes out, since a file may wait to be opened; then the next file is opened and read.
     fn read_next(self, output: Output, block: &[u8], buffer: &mut [u8]) -> Piece
         ensures counts { λ r. ⌜ Counts (r .count) (now (buffer .exit)) ⌝ }
+        ensures passes { λ r. ⌜ Passes output (r .output) ⌝ }
     {
         let output = output.flushed(block);
         if !output.open {
@@ -226,6 +225,7 @@ impl Input {
     // The same until a file gives a byte. There are no more files than arguments, so that many turns suffice.
     fn read_on(self, output: Output, block: &[u8], buffer: &mut [u8]) -> Piece
         ensures counts { λ r. ⌜ Counts (r .count) (now (buffer .exit)) ⌝ }
+        ensures passes { λ r. ⌜ Passes output (r .output) ⌝ }
     {
         let mut p = self.read_next(output, block, buffer);
         let mut left = os::arg_count();
@@ -243,6 +243,7 @@ impl Input {
     // may wait for it.
     pub fn piece(self, output: Output, block: &[u8], buffer: &mut [u8]) -> Piece
         ensures counts { λ r. ⌜ Counts (r .count) (now (buffer .exit)) ⌝ }
+        ensures passes { λ r. ⌜ Passes output (r .output) ⌝ }
     {
         let p = self.filled(output, block, buffer);
         if !p.is_over() {

@@ -8,7 +8,7 @@ ghost use mathlib.Core.Path.{_≡_};
 ghost use lib.ListN.{take};
 ghost use Rattle.formats.specs.Digits.{shown, decimal, errorText};
 ghost use Rattle.io.specs.Counts.{Counts};
-ghost use Rattle.streams.specs.Gathering.{gathered, Puts};
+ghost use Rattle.streams.specs.Gathering.{gathered, Puts, Passes};
 use libc::STDERR_FILENO;
 use libc::STDOUT_FILENO;
 
@@ -84,6 +84,16 @@ impl Output {
     {
         let n = self.held(block);
         self.sent(&block[..n])
+    }
+
+    // The same, where somebody may wait for it.
+    fn passed(self, block: &[u8], awaited: bool) -> Output
+        ensures passes { λ r. ⌜ Passes self r ⌝ }
+    {
+        if awaited {
+            return self.flushed(block);
+        }
+        self
     }
 
     // Bytes are gathered behind what is there. Where they do not fit, that goes out first; bytes longer than the block go out at once.

@@ -1,0 +1,19 @@
+-- `streams::Output::passed` meets its contract.
+-- Assumes nothing.
+use mathlib.Core.Logic.{inr}
+use Rattle.streams.proofs.Gathering.{passes-same}
+use borrow.Author.Needs.{needs}
+use Rattle.streams.proofs.Output.passed.Statement.{statement}
+use Rattle.streams.proofs.Output.passed.Tie as tie
+
+flushed-requires : tie.Need-flushed-requires
+flushed-requires c κs = search needs
+
+returns : tie.Need-returns
+returns c = (inr (c .flushed .ensures .0), c .flushed .ensures .1)
+
+returns-2 : tie.Need-returns-2
+returns-2 c = passes-same _
+
+pub passed-spec : {M : Type 1} → statement M
+passed-spec = tie.close (tie.spec flushed-requires returns returns-2)
