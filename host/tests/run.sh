@@ -139,7 +139,7 @@ anywhere() {
 
 # Where nobody reads any more what is said, the program is run all the same.
 unheard() {
-    stubbed <<<'sleep 1; echo "rt: a line"; echo "rt: another"; link' || return 1
+    stubbed <<<'sleep 1; echo "rt: a line"; sleep 1; echo "rt: another"; link' || return 1
     "$small/run" words ran 2>&1 >"$place/wrote" | true
     [ "${PIPESTATUS[*]}" = "0 0" ] && wrote ran
 }
