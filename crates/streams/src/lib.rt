@@ -90,6 +90,9 @@ impl Output {
     fn passed(self, block: &[u8], awaited: bool) -> Output
         ensures passes { λ r. ⌜ Passes self r ⌝ }
     {
+        if self.used == 0 {
+            return self;
+        }
         if awaited {
             return self.flushed(block);
         }

@@ -24,10 +24,9 @@ struct After {
     output: Output,
 }
 
-// The box, the input, the output and the sizes after a record, and whether there may be more.
+// The box, the output and the sizes after a record, and whether there may be more.
 struct Next {
     held: SwitchBox,
-    input: Input,
     output: Output,
     sizes: Sizes,
     on: bool,
@@ -268,7 +267,8 @@ fn one(
     After { held: b, output }
 }
 
-// The next record, if there is a whole one. At the end what is gathered goes out.
+// The next record, if there is a whole one. At the end what is gathered goes out. Of one file nothing is read behind a piece that is cut short,
+// so that what is left of the input need not be handed on.
 fn turn(
     b: SwitchBox,
     input: Input,
@@ -286,13 +286,11 @@ fn turn(
 {
     let mut bytes = [0u8; 4];
     let p = input.piece(output, block, &mut bytes);
-    let input = p.input;
     let output = p.output;
     if p.count < 4 {
         let output = output.flushed(block);
         return Next {
             held: b,
-            input,
             output,
             sizes: s,
             on: false,
@@ -305,7 +303,6 @@ fn turn(
     let sizes = resized(s, r.op, r.number);
     Next {
         held,
-        input,
         output,
         sizes,
         on: true,
@@ -315,7 +312,7 @@ fn turn(
 // Records to the end of the input. A proved loop has to end, so it counts its turns down.
 fn turns(
     b: SwitchBox,
-    from: Input,
+    input: Input,
     program: &mut [u8],
     saved: &mut [u8],
     log: &mut [u8],
@@ -325,7 +322,6 @@ fn turns(
     requires { ⌜ (Invariant (b .controller)) × (Buffers (now program) (now saved) (now log) (now out)) ⌝ }
 {
     let mut held = b;
-    let mut input = from;
     let mut output = Output::new();
     let mut sizes = Sizes {
         program: lines::PROGRAM,
@@ -340,7 +336,6 @@ fn turns(
             return;
         }
         held = n.held;
-        input = n.input;
         output = n.output;
         sizes = n.sizes;
         left -= 1;

@@ -42,7 +42,7 @@ resized-requires : tie.Need-resized-requires
 resized-requires c κs =
     let called = c .before .before .before .before .before .before .before .before .before .before .before .before in
     let asked = called .before .before .before .before .before .before .before .before .before .before in
-    asked .before .before .before .before .before .before .before .before .before .before .pre .1
+    asked .before .before .before .before .before .before .before .before .before .pre .1
 
 same-length-2 : tie.Need-same-length-2
 same-length-2 c = search needs
@@ -64,7 +64,7 @@ returns-2 c =
     let earlier = c .before .before .before .before .before .before .before .before .before .before in
     let called = earlier .before .before .before in
     let asked = called .before .before .before .before .before .before .before .before .before .before in
-    let had = asked .before .before .before .before .before .before .before .before .before .before .pre .2 in
+    let had = asked .before .before .before .before .before .before .before .before .before .pre .2 in
     (called .one .ensures, c .resized .ensures, (same-length-2 c ∙ had .0, same-length-3 c ∙ had .1, same-length-4 c ∙ had .2, same-length-5 c ∙ had .3))
 
 pub turn-spec : {M : Type 1} → statement M

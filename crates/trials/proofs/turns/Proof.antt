@@ -10,11 +10,11 @@ use Rattle.trials.proofs.turns.Statement.{statement}
 use Rattle.trials.proofs.turns.Tie as tie
 
 abbrev Inv-loop : tie.InvT-loop
-Inv-loop program₀ saved₀ log₀ out₀ block₀ held₀ input₀ output₀ sizes₀ left₀ program saved log out block held input output sizes left =
+Inv-loop input program₀ saved₀ log₀ out₀ block₀ held₀ output₀ sizes₀ left₀ program saved log out block held output sizes left =
     (Buffers program saved log out) × (length block ≡ length block₀) × (Invariant (held .controller)) × (Fits sizes)
 
 abbrev μ-loop : tie.MeasureT-loop
-μ-loop program₀ saved₀ log₀ out₀ block₀ held₀ input₀ output₀ sizes₀ left₀ program saved log out block held input output sizes left = left
+μ-loop input program₀ saved₀ log₀ out₀ block₀ held₀ output₀ sizes₀ left₀ program saved log out block held output sizes left = left
 
 new-requires : tie.Need-new-requires Inv-loop μ-loop
 new-requires c κs = search needs
@@ -62,18 +62,18 @@ returns c = search needs
 sub-left : tie.Need-sub-left Inv-loop μ-loop
 sub-left c =
     let earlier = c .before .before .before .before .before .before .before .before .before .before in
-    let called = earlier .before .before .before .before .before .before in
+    let called = earlier .before .before .before .before .before in
     omega (arith, called .before .before .before .before .before .before .loop-test .taken)
 
 loop-less : tie.Need-loop-less Inv-loop μ-loop
 loop-less c =
     let earlier = c .before .before .before .before .before .before .before .before .before .before in
-    let called = earlier .before .before .before .before .before .before in
+    let called = earlier .before .before .before .before .before in
     omega (arith, called .before .before .before .before .before .before .loop-test .taken)
 
 loop-again : tie.Need-loop-again Inv-loop μ-loop
 loop-again c =
-    let called = c .before .before .before .before .before .before .before .before .before .before .before .before .before .before .before .before in
+    let called = c .before .before .before .before .before .before .before .before .before .before .before .before .before .before .before in
     let kept = called .turn .ensures in
     (kept .2, omega (arith, called .before .before .before .before .before .before .before .loop .inv .1), kept .0, kept .1)
 
