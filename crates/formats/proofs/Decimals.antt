@@ -1,6 +1,6 @@
 -- Laws of a number in decimal without leading zeros: how many digits it has, and that a person reads it off them.
 -- Assumes nothing.
-use mathlib.Core.Path.{_≡_, refl, ap, _∙_}
+use mathlib.Core.Path.{_≡_, refl, sym, ap, _∙_}
 use mathlib.Core.Logic.{_≢_}
 use Prim.Native.Nat.{ℕ, zero, suc, _+_, _*_, _-_, _/_, _^_, _≤_, _<_, min}
 use native.Mathlib.Omega.{arith}
@@ -12,15 +12,15 @@ use mathlib.Core.Option.{some}
 use lib.ListN.{length, getD}
 use lib.Dec.{ltb}
 use borrow.Author.Tests.{lt-ltb, le-ltb, ltb-true, ltb-false, eq-eqb, ne-eqb}
-use Rattle.formats.specs.Checks.{_>>=_, _>>_, _orElse_, text}
-use Rattle.formats.specs.Digits.{digitValue, shown, width, mostDigits, decimal, decimalIn}
+use Rattle.formats.specs.Checks.{refused, passed, _>>=_, _>>_, _orElse_, text}
+use Rattle.formats.specs.Digits.{digitValue, numberIn, shown, width, mostDigits, decimal, decimalIn}
 use Rattle.formats.specs.declared.Written.the-variants.{Is as IsWritten, No as NotWritten}
 use Rattle.formats.specs.Numbers.{mostWritten, writtenOr}
 use Rattle.formats.specs.Worth.{digitWorth, worth, areDigits, ReadAs, isPlain, inDecimal, inHex}
 use Rattle.formats.proofs.Checks.{if-case, both-true}
 use Rattle.formats.proofs.Characters.{length-shown}
 use Rattle.formats.proofs.Loops.{Read, read-none, read-bad, read-more, read-all}
-use Rattle.formats.proofs.Worth.{worth-below, shown-read}
+use Rattle.formats.proofs.Worth.{are-digits, is-worth, worth-below, shown-read}
 
 width-one : (m v : ℕ) → v < 10 → width (suc m) v ≡ 1
 unfolding width
@@ -203,3 +203,21 @@ none-written cs z e = rw (eq-eqb (length cs) 0 z)
 pub kept-all : (cs : List ℕ) (i v : ℕ) → length cs ≤ i → length cs ≢ 0 → Kept cs i v → (e : ℕ) → writtenOr e (IsWritten v) ≡ decimalIn mostWritten e cs
 unfolding decimalIn _>>_ _>>=_ _orElse_
 kept-all cs i v le any k e = rw (ne-eqb (length cs) 0 any, ← read-all 10 cs i (k .whole) le (k .read) e, k .capped)
+
+-- ---- what is written, in a reader's words
+
+-- Digits are read as what they are worth, or as the largest number.
+pub written-read : (most e : ℕ) (cs : List ℕ) → 0 < length cs → areDigits 10 cs ≡ true → decimalIn most e cs ≡ passed (min (worth 10 cs) most)
+unfolding decimalIn numberIn _>>_ _>>=_ _orElse_
+written-read most e cs any digits =
+    rw (ne-eqb (length cs) 0 (λ z. omega arith), sym (are-digits 10 cs) ∙ digits, is-worth 10 cs)
+
+-- All else is no number.
+pub written-other : (most e : ℕ) (cs : List ℕ) → areDigits 10 cs ≡ false → decimalIn most e cs ≡ refused e
+unfolding decimalIn numberIn _>>_ _>>=_ _orElse_
+written-other most e [] other = refl
+written-other most e (c ∷ cs) other = rw (ne-eqb (length (c ∷ cs)) 0 (λ z. omega arith), sym (are-digits 10 (c ∷ cs)) ∙ other)
+
+pub written-none : (most e : ℕ) → decimalIn most e [] ≡ refused e
+unfolding decimalIn _>>_ _>>=_ _orElse_
+written-none most e = refl

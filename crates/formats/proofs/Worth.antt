@@ -52,6 +52,9 @@ unfolding numberAfter worth
 worth-number base v [] = rw pow-zero (omega arith)
 worth-number base v (c ∷ cs) = worth-number base (v * base + digitValue c) cs ∙ rw (pow-suc, digit-worth c) (omega arith)
 
+pub is-worth : (base : ℕ) (cs : List ℕ) → number base (map digitValue cs) ≡ worth base cs
+is-worth base cs = omega (arith, worth-number base 0 cs)
+
 -- n digits are worth less than the base to the power n
 pub worth-below : (base : ℕ) (cs : List ℕ) → areDigits base cs ≡ true → worth base cs < base ^ length cs
 worth-below base cs e =
