@@ -12,7 +12,7 @@ use Rattle.streams.specs.Gathering.{Puts, Passes}
 use Rattle.duration.specs.declared.Answer.{Answer}
 use Rattle.duration.specs.declared.Answer.the-variants.{Takes, Refused}
 use Rattle.duration.specs.Report.{report, answerOf}
-use Rattle.duration.specs.Total.{adds, cappedTotal, grandTotal}
+use Rattle.duration.specs.Total.{adds, cappedTotal, grandTotal, toldTotal}
 use Rattle.durations.specs.declared.Progress.{Progress}
 
 -- an answer as a line, which byte 10 ends
@@ -49,3 +49,8 @@ pub record Ends (r : Progress) (block : List ℕ) : Type 0 where
   pub passes : Passes last (r .output)
   pub total : r .total ≡ cappedTotal (grandTotal pieces)
   pub end : r .on ≡ true → 18446744073709551615 ≤ length pieces
+
+-- the last line: the grand total of all pieces that were told
+pub record TellsTotal (n : Progress) (block : List ℕ) (r : Output) (block′ : List ℕ) : Type 0 where
+  pub ended : Ends n block
+  pub line : Puts (n .output) block (lineOf (answerOf (toldTotal (grandTotal (ended .pieces))))) r block′

@@ -2,7 +2,7 @@
 // standard output how many ticks each takes, or why that is not told, and then the grand total, a line each. No more than one program is kept.
 // What is told of a program is in contracts, by specs/Telling.antt; which bytes were read, and which went out, is in none, since C's have none.
 ghost use Rattle.streams.specs.Gathering.{Puts};
-ghost use Rattle.durations.specs.Telling.{lineOf, Tells, Turns, Ends};
+ghost use Rattle.durations.specs.Telling.{lineOf, Tells, Turns, Ends, TellsTotal};
 use duration::Answer;
 use streams::Output;
 use streams::arguments;
@@ -92,17 +92,24 @@ fn turns(input: Input, block: &mut [u8]) -> Progress
     n
 }
 
+// The grand total as the last line.
+fn told_total(n: Progress, block: &mut [u8]) -> Output
+    requires { ⌜ Ends n (now block) ⌝ }
+    ensures total { λ r. ⌜ TellsTotal n (now (block .entry)) r (now (block .exit)) ⌝ }
+{
+    put_answer(n.output, block, duration::total_told(n.total))
+}
+
 fn main() {
     let mut block = [0u8; 4096];
     if !arguments::fit(1, usize::MAX, b"durations [FILE...]") {
         return;
     }
     let n = turns(Input::from(1), &mut block);
-    let output = n.output;
     if n.input.failed {
-        output.flushed(&block);
+        n.output.flushed(&block);
         return;
     }
-    let last = put_answer(output, &mut block, duration::total_told(n.total));
+    let last = told_total(n, &mut block);
     last.flushed(&block);
 }
