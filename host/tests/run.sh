@@ -5,8 +5,8 @@
 # shellcheck disable=SC2015,SC2016 # a step that fails ends its case; what stubs do is quoted
 set -u
 
-cases=(output_alone arguments on_arm anywhere unheard
-    unproved example_wrong could_not_tell toolchain_failed half_removed bad_crates killed read_only
+cases=(output_alone arguments on_arm anywhere unheard unkept signalled
+    unproved example_wrong could_not_tell toolchain_failed half_removed empty_program bad_crates killed read_only
     two_at_once pipeline linked_anew descriptors run_killed interrupted proof_interrupted
     unknown_name help page)
 
@@ -112,6 +112,27 @@ comes() {
 
 # ---- Arguments, input and output
 
+# What the program says is status 1 also where it cannot be kept, as with a full temporary folder.
+unkept() {
+    stubbed <<<'link' && script "$place/program" <<<'echo cannot read >&2; echo answer' &&
+        script "$place/stubs/tee" <<<'cat; case $* in *said.out) exit 1 ;; esac' && ends 1 "$small/run" words && wrote answer &&
+        [ "$(tail -n 1 "$place/said")" = 'cannot read' ]
+}
+
+# A signal that ends run ends the program too, which has the caller's input.
+signalled() {
+    local signal
+    stubbed <<<'link' && script "$place/program" <<<'echo $$ >"$place/number"; exec sleep 60' || return 1
+    for signal in HUP INT QUIT TERM; do
+        rm -f "$place/number"
+        (trap - INT QUIT; exec setsid "$small/run" words) </dev/null >/dev/null 2>&1 &
+        comes "$place/number" && sleep 0.5 && kill -s $signal $! || return 1
+        wait $!
+        [ $? = $((128 + $(kill -l $signal))) ] || { echo "$signal: another status"; return 1; }
+        ! kill -0 "$(cat "$place/number")" 2>/dev/null || { echo "$signal: the program goes on"; return 1; }
+    done
+}
+
 # A pipe carries what the program writes, and the program reads what the caller gives it, not the prover.
 output_alone() {
     "$top/run" bench <"$top/crates/bench/stdin" 2>"$place/said" | cmp - "$top/crates/bench/stdout"
@@ -175,6 +196,12 @@ toolchain_failed() {
 # The same where the program is gone whose stamp is there: rt has nothing to say.
 half_removed() {
     stubbed <<<':' && not_run words 'words is proved, but ' && [[ $(tail -n 1 "$place/said") = *"in $small: rm -rf target" ]]
+}
+
+# The same where it is empty, as a power cut can leave it: bash would run it, and nothing written with status 0 is an answer of some programs.
+empty_program() {
+    stubbed <<<': >target/bin/words && chmod +x target/bin/words' && not_run words 'words is proved, but its file is empty' &&
+        [[ $(tail -n 1 "$place/said") = *"in $small: rm -rf target" ]]
 }
 
 # A list of crates that rt does not take is neither a proof that failed nor the toolchain's failure: a library that is not there, one that

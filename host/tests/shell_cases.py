@@ -4,12 +4,16 @@ import ctypes
 import os
 import pty
 import resource
+import socket
+import struct
 import subprocess
 import termios
+import threading
+import time
 import tty
 
 from durations_cases import FIVE, LONGEST, ONE, REFUSED
-from shell_program import FOLDER, MISSING, folder, open_fifo, same, store, untouched
+from shell_program import FOLDER, MISSING, folder, open_fifo, same, store, untouched, waiting_bytes
 
 END_OF_INPUT = b"\xfe"  # the character of the terminal here that is Ctrl-D on others: a byte that no sample has
 
@@ -224,6 +228,29 @@ def broken_off(program):
         os.close(line)
 
 
+def connection_reset(program):
+    """A read that fails once, and after which the next one gives an end: it is no end, and what came before is not the whole."""
+    for piece in (b"", program.sample.piece):
+        with socket.create_server(("127.0.0.1", 0)) as server:
+            line = socket.create_connection(server.getsockname())
+            other, _ = server.accept()
+        other.sendall(program.sample.given + piece)
+        breaker = threading.Thread(target=reset_when_read, args=(other, line))
+        breaker.start()
+        program.fails(program.sample.answer, "cannot read standard input: Connection reset by peer", stdin=line)
+        breaker.join()
+        line.close()
+
+
+def reset_when_read(other, line):
+    """The other end breaks the connection off when all that it has sent is read."""
+    while waiting_bytes(line):
+        time.sleep(0.01)
+    time.sleep(0.2)  # the program waits for more
+    other.setsockopt(socket.SOL_SOCKET, socket.SO_LINGER, struct.pack("ii", 1, 0))
+    other.close()
+
+
 def output_fails(program):
     """Output that is full, closed, or that nobody reads any more: a message, and no signal."""
     with folder(file=program.sample.given):
@@ -324,7 +351,7 @@ def fifo_behind_file(program):
 
 
 ALL = [named_file, closed_input, dash, missing_file, folder_as_file, unreadable_file, odd_names, empty_name, long_name, unknown_option,
-       options, long_argument, fifo, terminal, broken_off, output_fails]
+       options, long_argument, fifo, terminal, broken_off, connection_reset, output_fails]
 LOGLIST = [endless_file]
 ONE_FILE = [too_many]
 SEVERAL_FILES = [several_files, empty_files, dash_among, failure_among, many_files, opened_in_turn, fifo_behind_file]

@@ -3,6 +3,7 @@ ghost use Rattle.io.specs.Counts.{Counts};
 ghost use Rattle.streams.specs.Gathering.{Passes};
 use crate::Output;
 use crate::arguments;
+use crate::say;
 use libc::STDIN_FILENO;
 
 // What is read now.
@@ -101,29 +102,22 @@ impl Input {
 
     // ---- bytes
 
-    // A read that failed is made once more, and told if it fails again: to fetch the file's name takes the first one's reason away.
-    fn read_again(self, buffer: &mut [u8]) -> Got
-        ensures counts { λ r. ⌜ Counts (r .count) (now (buffer .exit)) ⌝ }
-    {
+    // A read failed, which is told with the file's name. To fetch that takes the reason away, so the read is made once more, for the reason alone:
+    // whatever it gives, the first one failed, and a part of a file does not pass for the whole.
+    fn tell_read(self, buffer: &mut [u8]) {
+        if self.name == 0 {
+            os::fail(b"cannot read standard input");
+            return;
+        }
         let mut name = io::buffer();
         let n = arguments::word(self.name, &mut name);
-        let got = libc::read(self.fd, buffer);
-        if got < 0 {
-            if self.name == 0 {
-                os::fail(b"cannot read standard input");
-            } else {
-                tell(b"cannot read '", &name[..n]);
-            }
-            return Got {
-                count: 0,
-                failed: true,
-            };
+        if libc::read(self.fd, buffer) < 0 {
+            tell(b"cannot read '", &name[..n]);
+            return;
         }
-        let count = io::count(got, buffer);
-        Got {
-            count,
-            failed: false,
-        }
+        say(b"cannot read '");
+        say(&name[..n]);
+        say(b"'\n");
     }
 
     // Input is read once, as much as there is.
@@ -132,7 +126,11 @@ impl Input {
     {
         let got = libc::read(self.fd, buffer);
         if got < 0 {
-            return self.read_again(buffer);
+            self.tell_read(buffer);
+            return Got {
+                count: 0,
+                failed: true,
+            };
         }
         let count = io::count(got, buffer);
         Got {
