@@ -17,7 +17,7 @@ What a command in the background prints belongs to the command that was given la
 are shown.
 
 At the end of a page no process may be left that it started, and outside target/ the tree must be as it was. A command elsewhere than
-in such a block is a fault too: nothing that a page shows is unchecked. So is a program without a page, a page that has not the form
+in such a block is a fault too: no transcript is unchecked. So is a program without a page, a page that has not the form
 of the others or stands not in README, and a README of 150 lines.
 """
 import contextlib
@@ -321,7 +321,7 @@ def main(words):
     failed = 0
     for page in words or pages(TOP):
         faults, count = faults_of(TOP, page)
-        print("\n".join([f"FAILED {page}", *faults] if faults else [f"passed {page}: {count} commands"]), flush=True)
+        print("\n".join([f"FAILED {page}", *faults] if faults else [f"passed {page}, commands: {count}"]), flush=True)
         failed += bool(faults)
     return failed != 0
 
