@@ -25,15 +25,15 @@ pub record Tells (o : Output) (block : List ℕ) (before : ℕ) (p : List ℕ) (
   pub line : Puts o block (lineOf (answerOf (report p))) o′ block′
   pub total : after ≡ cappedTotal (before + adds (answerOf (report p)))
 
--- what a turn does: some bytes were read, and are told; or there are none, and total and block stay. Which bytes, is in no contract, since what a read
--- gives is in none
+-- what a turn does: a piece is told, or none is, and total and block stay. Which bytes a piece has, and that none that was read is left out, is in no
+-- contract, since what a read gives is in none
 pub record Turns (o : Output) (block : List ℕ) (before : ℕ) (r : Progress) (block′ : List ℕ) : Type 0 where
   pub passed : Output
   pub passes : Passes o passed
   pub tells : r .on ≡ true → (p : List ℕ) × (0 < length p) × Tells passed block before p (r .output) (r .total) block′
   pub ends : r .on ≡ false → (r .output ≡ passed) × (r .total ≡ before) × (block′ ≡ block)
 
--- turns one after the other: the pieces that were read, each told behind the one before it, the total with them, and what they left of the output and its
+-- turns one after the other: the pieces that were told, each behind the one before it, the total with them, and what they left of the output and its
 -- block. The first has an output of which nothing waits
 pub data Ran : List (List ℕ) → ℕ → Output → List ℕ → Type 0 where
   begun : (o : Output) (block : List ℕ) → o .used ≡ 0 → o .open ≡ true → Ran [] 0 o block
