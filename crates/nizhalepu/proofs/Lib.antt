@@ -1,3 +1,4 @@
 pub mod MachineValues
 pub mod Agreement
 pub mod Durations
+pub mod Stops

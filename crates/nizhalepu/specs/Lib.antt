@@ -1,2 +1,3 @@
 pub mod InRecord
 pub mod Durations
+pub mod Stops

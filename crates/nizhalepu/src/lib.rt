@@ -1,5 +1,5 @@
-// The record that the box's main loop keeps, the five calls that alter it where it stands, the text of an emptied log, and how long a program
-// takes: a library for C.
+// The record that the box's main loop keeps, the five calls that alter it where it stands, the text of an emptied log, how long a program
+// takes, and how and why one stops: a library for C.
 // Each of the five calls the method of the box and stores the box that this returned. Definition: `call` of controller/specs/Calls.antt, as for the
 // by-value calls; specs/InRecord.antt for what stays in the record and what is said beside it. The header is host/nizhalepu.h.
 ghost use mathlib.Core.Path.{_≡_};
@@ -14,7 +14,9 @@ ghost use Rattle.nizhalepu.specs.InRecord.{inRecord};
 ghost use Rattle.formats.specs.Writing.{Wrote};
 ghost use Rattle.reader.specs.Listing.{listingIn};
 ghost use Rattle.duration.specs.Report.{report};
+ghost use Rattle.explanation.specs.Report.{report as stopReport};
 ghost use Rattle.nizhalepu.specs.Durations.{durationOf};
+ghost use Rattle.nizhalepu.specs.Stops.{explainedOf};
 use calls::SwitchBox;
 use duration::Answer;
 
@@ -151,5 +153,54 @@ pub extern "C" fn nizhalepu_duration(program: &[u8]) -> Duration
     match answer {
         Answer::Takes(ticks) => Duration { refusal: 0, ticks },
         Answer::Refused(refusal) => Duration { refusal, ticks: 0 },
+    }
+}
+
+// How a program stopped that was started at a line.
+#[repr(C)]
+pub struct Explained {
+    // the tick from the start, which is tick 0; 0 where it is refused or still runs
+    pub tick: u32,
+    // the number of the refusal, 0 where there is none
+    pub refusal: u8,
+    // the event that stopped it, 0 where it is refused or still runs
+    pub event: u8,
+    // the line where it stopped, 0 where it is refused or still runs
+    pub line: u8,
+    // 006, 013: a line; 007: a counter; 008: 1 for yes, 0 for no; 255 for none
+    pub cause: u8,
+}
+
+// How a program stops that is started at a line, and why; or that it still runs after so many ticks; or why that is not told.
+#[no_mangle]
+pub extern "C" fn nizhalepu_explain(program: &[u8], start: u64, limit: u64) -> Explained
+    ensures explained { λ r. ⌜ r ≡ explainedOf (stopReport (now (program .entry)) start limit) ⌝ }
+{
+    let answer = explanation::report(program, start, limit);
+    match answer {
+        explanation::Answer::Refused(refusal) => Explained {
+            tick: 0,
+            refusal,
+            event: 0,
+            line: 0,
+            cause: 255,
+        },
+        explanation::Answer::Running => Explained {
+            tick: 0,
+            refusal: 0,
+            event: 0,
+            line: 0,
+            cause: 255,
+        },
+        explanation::Answer::Stopped(stop) => {
+            let cause = stop.cause;
+            Explained {
+                tick: stop.tick,
+                refusal: 0,
+                event: stop.event,
+                line: stop.line,
+                cause: cause.number(),
+            }
+        }
     }
 }

@@ -17,6 +17,7 @@ use Rattle.running.specs.declared.Step.{Step}
 use Rattle.running.specs.Running.{counter, isBusy, isFree, begun, withOutputs, stopped, onward, runLine}
 use Rattle.running.specs.Running.{isForOrNext, follow, step, runDue, most, start, isHeld, tick}
 use Rattle.running.specs.Ticking.{after}
+use Rattle.running.specs.Moments.{lastOr, lastDue}
 
 if-both : {A : Type 0} (R : A → A → Type 0) (b : Bool) {x y x′ y′ : A} → R x x′ → R y y′ → R (if b then x else y) (if b then x′ else y′)
 if-both R true a b = a
@@ -85,6 +86,30 @@ module _ (p : List ℕ) where
   unfolding after
   after-same zero x y s = s
   after-same (suc n) x y (same q e l is) = after-same n (tick p (x .run)) (tick p (y .run)) (rw is (tick-same q (y .run)))
+
+  -- the line behind the one that is held
+  pub onward-aside : (q : ℕ) (r : Run) → onward (withOutputs q r) .run ≡ withOutputs q (onward r .run)
+  unfolding onward
+  onward-aside q r = if-both (λ (s t : Step). s .run ≡ withOutputs q (t .run)) (ltb (r .line) 199) refl refl
+
+  -- the last moment of a call
+  pub data SameRun (r s : Run) : Type 0 where
+    sameRun : (q : ℕ) → r ≡ withOutputs q s → SameRun r s
+
+  pub last-aside : (left q : ℕ) (r : Run) → SameRun (lastDue p left (withOutputs q r)) (lastDue p left r)
+  unfolding lastDue
+  last-aside zero q r = sameRun q refl
+  last-aside (suc left) q r = by (step-alike q r) (λ v s. last-aside left v s)
+    where
+      go : (h : How) (v : ℕ) (s : Run) → ((v : ℕ) (s : Run) → SameRun (lastDue p left (withOutputs v s)) (lastDue p left s))
+          → SameRun (lastOr h (withOutputs q r) (withOutputs v s) (λ u. lastDue p left u)) (lastOr h r s (λ u. lastDue p left u))
+      go Holds v s more = sameRun q refl
+      go (Ends e) v s more = sameRun q refl
+      go GoesOn v s more = more v s
+
+      by : Alike (step p (withOutputs q r)) (step p r) → ((v : ℕ) (s : Run) → SameRun (lastDue p left (withOutputs v s)) (lastDue p left s))
+          → SameRun (lastDue p (suc left) (withOutputs q r)) (lastDue p (suc left) r)
+      by (alike v how run) more = rw (how, run) (go (step p r .how) v (step p r .run) more)
 
   -- A start with other outputs: at every tick the same event, the same line, the same loops.
   pub outputs-aside : (k o q n : ℕ) → SameButOutputs (after p n (start p k o)) (after p n (start p k q))

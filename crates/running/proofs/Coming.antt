@@ -14,13 +14,14 @@ use Rattle.running.specs.declared.Run.{Run}
 use Rattle.running.specs.declared.Ran.{Ran}
 use Rattle.running.specs.Running.{begun, withOutputs, waiting, stopped, onward, isForOrNext, stops, rests, follow, step, runDue, most, start, tick}
 use Rattle.running.specs.Ticking.{after, EndsAfter}
-use Rattle.running.specs.Moments.{behind, goes, waits, first, later, Moment, Within, here, on, Cause, byLine}
-use Rattle.running.specs.Moments.{over, Stops, Holding, StopsAfter, past199, behindIt}
+use Rattle.running.specs.Gone.{behind, goes, waits, Gone, begins, further}
+use Rattle.running.specs.Moments.{Moment, Within, here, on, Cause, byLine, over, Stops, Holding, StopsAfter, past199, behindIt}
 use Rattle.running.proofs.Waiting.{tick-before, tick-off, due-at}
 use Rattle.running.proofs.Invariant.{Going, step-going}
 use Rattle.running.proofs.Causes.{Way, isHeld, hasEnded, goesOn, step-way}
 use Rattle.running.proofs.Ending.{step-runs}
 use Rattle.running.proofs.Reaching.{after-one-more}
+use Rattle.running.proofs.Gone.{first-moment, next-moment}
 
 -- ---- one call
 
@@ -74,23 +75,29 @@ pub record Called (p : List ℕ) (b : Run) (x : Ran) : Type 0 where
 -- what falls due in the same call is a moment too
 pub within-moment : (p : List ℕ) (b r s : Run) {n : ℕ} → Moment p b r → Within p r n s → Moment p b s
 within-moment p b r s m (here is) = rw (sym is) m
-within-moment p b r s m (on {r = t} w how is) = later (within-moment p b r t m w) (goes how is) tt
+within-moment p b r s m (on {r = t} w how is) = next-moment (within-moment p b r t m w) (goes how is)
 
 -- the invariant holds at every moment
-pub moment-going : (p : List ℕ) (b s : Run) → Going b → Moment p b s → Going s
-moment-going p b s g (first is u) = rw (sym is) g
-moment-going p b s g (later {r = r} m (goes how is) u) = rw (sym is) (step-going p r (moment-going p b r g m) .going)
-moment-going p b s g (later {r = r} m (waits state above lt is) u) =
-    let h = moment-going p b r g m in
+gone-going : (p : List ℕ) (b s : Run) {gone : List ℕ} → Going b → Gone p b gone s → Going s
+gone-going p b s g (begins is) = rw (sym is) g
+gone-going p b s g (further {r = r} w (goes how is)) = rw (sym is) (step-going p r (gone-going p b r g w) .going)
+gone-going p b s g (further {r = r} w (waits state above lt is)) =
+    let h = gone-going p b r g w in
     rw (sym is) (record { on = h .on; inProgram = omega arith; forLine = h .forLine; count = h .count; time = omega arith })
 
--- at every moment the program runs
-moment-on : (p : List ℕ) (b s : Run) → b .on ≡ true → Moment p b s → s .on ≡ true
-moment-on p b s begins (first is u) = rw (sym is) begins
-moment-on p b s begins (later {r = r} m (goes how is) u) = rw (sym is) (step-runs p r (moment-on p b r begins m))
-moment-on p b s begins (later {r = r} m (waits state above lt is) u) = rw (sym is) (moment-on p b r begins m)
+pub moment-going : (p : List ℕ) (b s : Run) → Going b → Moment p b s → Going s
+moment-going p b s g m = gone-going p b s g (m .way)
 
-module _ (p : List ℕ) (b : Run) (begins : b .on ≡ true) where
+-- at every moment the program runs
+gone-on : (p : List ℕ) (b s : Run) {gone : List ℕ} → b .on ≡ true → Gone p b gone s → s .on ≡ true
+gone-on p b s starts (begins is) = rw (sym is) starts
+gone-on p b s starts (further {r = r} w (goes how is)) = rw (sym is) (step-runs p r (gone-on p b r starts w))
+gone-on p b s starts (further {r = r} w (waits state above lt is)) = rw (sym is) (gone-on p b r starts w)
+
+moment-on : (p : List ℕ) (b s : Run) → b .on ≡ true → Moment p b s → s .on ≡ true
+moment-on p b s starts m = gone-on p b s starts (m .way)
+
+module _ (p : List ℕ) (b : Run) (starts : b .on ≡ true) where
   -- what a call at a moment leaves
   came-stands : (r : Run) (x : Ran) → Moment p b r → Came p r x → Standing p b (x .run)
   unfolding stopped
@@ -111,7 +118,7 @@ module _ (p : List ℕ) (b : Run) (begins : b .on ≡ true) where
   -- and for what cause one ends the program
   came-stops : (r : Run) (x : Ran) → Moment p b r → x .run .on ≡ false → Came p r x → Stops p r (x .event) (x .run)
   came-stops r x m off (held s n w state above is) =
-      absurd (true≢false (sym (moment-on p b s begins (within-moment p b r s m w)) ∙ ap (λ (y : Ran). y .run .on) (sym is) ∙ off))
+      absurd (true≢false (sym (moment-on p b s starts (within-moment p b r s m w)) ∙ ap (λ (y : Ran). y .run .on) (sym is) ∙ off))
   came-stops r x m off (ended {i = i} s u e n w le why is) =
       record {
         last = s;
@@ -128,7 +135,7 @@ module _ (p : List ℕ) (b : Run) (begins : b .on ≡ true) where
   -- of a run that holds the State line of a moment: it is held on, or the line after it falls due, or there is none
   data Ticked (v : Run) (h : Holding p b v) : Type 0 where
     heldOn : tick p v ≡ rests 0 (waiting (h .wait - 1) v) → 1 < h .wait → Ticked v h
-    due : tick p v ≡ runDue p most 0 (behind (h .outputs) (h .at)) → h .at .line < 199 → Ticked v h
+    due : tick p v ≡ runDue p most 0 (behind (h .outputs) (h .at)) → h .at .line < 199 → h .wait ≡ 1 → Ticked v h
     gonePast : tick p v ≡ stops 9 0 v → 199 ≤ h .at .line → Ticked v h
 
   ticked : (v : Run) (h : Holding p b v) → Ticked v h
@@ -136,7 +143,7 @@ module _ (p : List ℕ) (b : Run) (begins : b .on ≡ true) where
   ticked v h = go (ltb 1 (h .wait)) refl (ltb (h .at .line) 199) refl
     where
       runs : v .on ≡ true
-      runs = ap (λ (y : Run). y .on) (h .is) ∙ moment-on p b (h .at) begins (h .moment)
+      runs = ap (λ (y : Run). y .on) (h .is) ∙ moment-on p b (h .at) starts (h .moment)
 
       wait-is : v .wait ≡ h .wait
       wait-is = ap (λ (y : Run). y .wait) (h .is)
@@ -148,13 +155,13 @@ module _ (p : List ℕ) (b : Run) (begins : b .on ≡ true) where
       go true u l e = let lt = ltb-true 1 (h .wait) u in heldOn (tick-before p v runs (omega (arith, wait-is)) ∙ rw wait-is) lt
       go false u true e =
           let one : h .wait ≡ 1 = omega (arith, ltb-false 1 (h .wait) u, h .above) in
-          due (due-at p v runs (omega (arith, wait-is)) ∙ rw (line-is, e, h .is, one)) (ltb-true (h .at .line) 199 e)
+          due (due-at p v runs (omega (arith, wait-is)) ∙ rw (line-is, e, h .is, one)) (ltb-true (h .at .line) 199 e) one
       go false u false e =
           gonePast (due-at p v runs (omega (arith, wait-is, ltb-false 1 (h .wait) u)) ∙ rw (line-is, e)) (ltb-false (h .at .line) 199 e)
 
   -- the line behind a held one is a moment too
   behind-moment : (v : Run) (h : Holding p b v) → h .at .line < 199 → Moment p b (behind (h .outputs) (h .at))
-  behind-moment v h lt = later (h .moment) (waits (h .line) (omega (arith, h .above, h .most)) lt refl) tt
+  behind-moment v h lt = next-moment (h .moment) (waits (h .line) (omega (arith, h .above, h .most)) lt refl)
 
   -- a call in which r falls due
   due-comes : (r : Run) (x : Ran) → x ≡ runDue p most 0 r → Came p r x
@@ -165,7 +172,7 @@ module _ (p : List ℕ) (b : Run) (begins : b .on ≡ true) where
     where
       go : Ticked v h → StopsAfter p b v h (tick p v .event) (tick p v .run)
       go (heldOn is more) = absurd (true≢false (sym runs ∙ ap (λ (y : Ran). y .run .on) (sym is) ∙ off))
-      go (due is lt) = behindIt (came-stops _ (tick p v) (behind-moment v h lt) off (due-comes _ (tick p v) is))
+      go (due is lt one) = behindIt lt one (came-stops _ (tick p v) (behind-moment v h lt) off (due-comes _ (tick p v) is))
       go (gonePast is le) = past199 (ap (λ (y : Ran). y .event) is) le (ap (λ (y : Ran). y .run) is)
 
   -- ---- every call
@@ -195,7 +202,7 @@ module _ (p : List ℕ) (b : Run) (begins : b .on ≡ true) where
                   is = ap (λ (y : Ran). y .run) is ∙ ap (waiting (h .wait - 1)) (h .is);
                 });
           }
-      go (due is lt) = due-called _ (tick p v) (behind-moment v h lt) is
+      go (due is lt _) = due-called _ (tick p v) (behind-moment v h lt) is
       go (gonePast is le) = record { call = wentPast v is; stands = isOff (ap (λ (y : Ran). y .run .on) is) }
 
 -- ---- from a start on
@@ -207,7 +214,7 @@ module _ (p : List ℕ) (k o : ℕ) where
   -- What the start and every tick after it is, whether the program runs by then or not.
   pub every-call : (n : ℕ) → Called p (begun k o) (after p n x)
   unfolding after start
-  every-call zero = due-called p (begun k o) refl (begun k o) x (first refl tt) refl
+  every-call zero = due-called p (begun k o) refl (begun k o) x first-moment refl
   every-call (suc n) =
       let up : n + 1 ≡ suc n = omega arith in
       let is : tick p (after p n x .run) ≡ after p (suc n) x = sym (after-one-more p n x) ∙ ap (λ i. after p i x) up in
@@ -234,7 +241,7 @@ module _ (p : List ℕ) (k o : ℕ) where
   pub stops-at-once : (e : ℕ) → EndsAfter p 0 e x → Stops p (begun k o) e (x .run)
   unfolding after start
   stops-at-once e ends =
-      subst (λ f. Stops p (begun k o) f (x .run)) (ends .event) (came-stops p (begun k o) refl (begun k o) x (first refl tt) (ends .off)
+      subst (λ f. Stops p (begun k o) f (x .run)) (ends .event) (came-stops p (begun k o) refl (begun k o) x first-moment (ends .off)
       (due-comes p (begun k o) refl (begun k o) x refl))
 
   -- One that ends at a later tick ends for the cause of its event, behind the State line that was held before that tick.

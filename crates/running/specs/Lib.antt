@@ -3,4 +3,5 @@ pub mod Turn
 pub mod Invariant
 pub mod Ended
 pub mod Ticking
+pub mod Gone
 pub mod Moments

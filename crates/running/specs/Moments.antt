@@ -1,57 +1,28 @@
--- Nobody has to believe this before 02, item 9, asks for it: no theorem speaks of it yet.
--- The moments of a run: the runs at which a line falls due, one behind the other by the running rules. And what they tell of an end.
--- 02, item 9: "for 006 the line of the For that holds the counter, [...] for 007 the counter sought, for 013 the State line last held, if any", which is the
--- line that the run held before the tick that ended it.
-use Prim.Native.Nat.{ℕ, suc, _+_, _≤_, _<_}
+-- Nobody has to believe this: no theorem that a reader needs speaks of it.
+-- The moments of a run: the runs at which a line falls due (`Gone`). And what they tell of an end, call by call.
+use Prim.Native.Nat.{ℕ, zero, suc, _+_, _≤_, _<_}
 use mathlib.Core.Path.{_≡_}
 use mathlib.Core.Bool.{true}
 use mathlib.Core.List.{List}
 use Rattle.lines.specs.declared.Line.the-variants.{State, For, Next, Bad}
 use Rattle.lines.specs.Program.{lineAt, NoneFrom}
 use Rattle.running.specs.declared.Run.{Run}
-use Rattle.running.specs.declared.How.the-variants.{GoesOn}
-use Rattle.running.specs.Running.{counter, atLine, withOutputs, waiting, stopped, ends, isForOrNext, step}
+use Rattle.running.specs.declared.How.{How}
+use Rattle.running.specs.declared.How.the-variants.{Holds, Ends, GoesOn}
+use Rattle.running.specs.Running.{counter, withOutputs, waiting, stopped, ends, isForOrNext, step}
+use Rattle.running.specs.Gone.{behind, Gone}
 
--- ---- one behind the other
+-- ---- moments
 
--- the moment at which the line after a State line falls due, its time being over
-abbrev pub behind : ℕ → Run → Run
-behind outputs r = atLine (r .line + 1) (waiting 1 (withOutputs outputs r))
-
--- s comes next after r: a For or a Next goes on to it, or the line of r is a State and is held for its time
-pub data FollowedBy (p : List ℕ) (r s : Run) : Type 0 where
-  goes : step p r .how ≡ GoesOn → step p r .run ≡ s → FollowedBy p r s
-  waits : {o t : ℕ} → lineAt p (r .line) ≡ State o t → 0 < t → r .line < 199 → behind o r ≡ s → FollowedBy p r s
-
--- s is a moment of the run that begins with b; each from b to it is as P says
-pub data Through (p : List ℕ) (P : Run → Type 0) (b : Run) : Run → Type 0 where
-  first : {s : Run} → b ≡ s → P s → Through p P b s
-  later : {r s : Run} → Through p P b r → FollowedBy p r s → P s → Through p P b s
-
-abbrev pub Moment : List ℕ → Run → Run → Type 0
-Moment p b s = Through p (λ _. Unit {0}) b s
+-- s is a moment of the run that begins with b
+pub record Moment (p : List ℕ) (b s : Run) : Type 0 where
+  pub gone : List ℕ
+  pub way : Gone p b gone s
 
 -- it falls due in the same call as b, n lines later, each of them a For or a Next
 pub data Within (p : List ℕ) (b : Run) : ℕ → Run → Type 0 where
   here : {s : Run} → b ≡ s → Within p b 0 s
   on : {n : ℕ} {r s : Run} → Within p b n r → step p r .how ≡ GoesOn → step p r .run ≡ s → Within p b (suc n) s
-
--- ---- which For took a counter
-
--- counter c is busy, and line k stands in it
-pub record HeldFrom (c k : ℕ) (r : Run) : Type 0 where
-  pub busy : 0 < counter r c .count
-  pub line : counter r c .line ≡ k
-
--- At an earlier moment a For took counter c, which was free; the line of that For has stood in it since, and it is busy.
-pub record Took (p : List ℕ) (b : Run) (c : ℕ) (s : Run) : Type 0 where
-  pub at : Run
-  pub moment : Moment p b at
-  pub count : ℕ
-  pub line : lineAt p (at .line) ≡ For c count
-  pub free : counter at c .count ≡ 0
-  pub takes : step p at .how ≡ GoesOn
-  pub since : Through p (HeldFrom c (at .line)) (step p at .run) s
 
 -- ---- why a program ends
 
@@ -100,4 +71,17 @@ pub record Holding (p : List ℕ) (b v : Run) : Type 0 where
 -- The tick that ends the program with event e and leaves the run v, where h was held before it: it goes on past line 199, or stops in the lines behind.
 pub data StopsAfter (p : List ℕ) (b u : Run) (h : Holding p b u) (e : ℕ) (v : Run) : Type 0 where
   past199 : e ≡ 9 → 199 ≤ h .at .line → v ≡ stopped u → StopsAfter p b u h e v
-  behindIt : Stops p (behind (h .outputs) (h .at)) e v → StopsAfter p b u h e v
+  behindIt : h .at .line < 199 → h .wait ≡ 1 → Stops p (behind (h .outputs) (h .at)) e v → StopsAfter p b u h e v
+
+-- ---- the last moment of a call
+
+-- the moment r, where its line does not go on; else what `go` finds from the next one, s, on
+abbrev pub lastOr : How → Run → Run → (Run → Run) → Run
+lastOr Holds r s go = r
+lastOr (Ends event) r s go = r
+lastOr GoesOn r s go = go s
+
+-- Where r falls due and so many lines more may be run: the first moment whose line does not go on, or that at which none may be run any more.
+unfoldable pub lastDue : List ℕ → ℕ → Run → Run
+lastDue p zero r = r
+lastDue p (suc left) r = lastOr (step p r .how) r (step p r .run) (λ s. lastDue p left s)

@@ -9,6 +9,7 @@ ghost use Rattle.lines.specs.declared.Line.the-variants.{State};
 ghost use Rattle.running.specs.Running.{free, allFree, freshRun, begun, withOutputs, stopped, onward, runLine};
 ghost use Rattle.running.specs.Running.{stops, runDue, start, tick};
 ghost use Rattle.running.specs.Invariant.{RunInvariant};
+ghost use Rattle.running.specs.Moments.{lastDue};
 use lines::Line;
 
 mod loops;
@@ -96,7 +97,7 @@ impl Run {
     }
 
     // The run that a start at line k begins with.
-    fn begun(k: u8, outputs: u32) -> Run
+    pub fn begun(k: u8, outputs: u32) -> Run
         ensures run { λ r. ⌜ r ≡ begun k outputs ⌝ }
     {
         let counters = all_free();
@@ -240,6 +241,36 @@ impl Run {
             }
         }
         run.last_due(p, n)
+    }
+
+    // The run at the line with which a call ends: that line is neither a For nor a Next, or ends the program, or is behind 400 others. No
+    // call of the box needs it: a program that has stopped has let its counters go, and this says what they held.
+    pub fn last_moment(self, p: &[u8]) -> Run
+        requires { ⌜ IsProgram (now p) × (self .on ≡ true) × (RunInvariant self) ⌝ }
+        ensures run { λ r. ⌜ r ≡ lastDue (now (p .entry)) 400 self ⌝ }
+    {
+        let mut run = self;
+        let mut n: u16 = 0;
+        while n < 400 {
+            let k = run.line;
+            let line = lines::line_at(p, k as usize);
+            let counter = loops::counter_of(line);
+            if counter == 0 {
+                return run;
+            }
+            let c = (counter - 1) as usize;
+            let before = run.counters[c];
+            let t = loops::turn_of(p, line, k, before);
+            let how = t.how;
+            if let How::Ends(_) = how {
+                return run;
+            }
+            n += 1;
+            let held = t.held;
+            run.counters[c] = held;
+            run.line = t.line;
+        }
+        run
     }
 
     // One tick taken unpaused: a State line is held on, or the program goes on to the line after it.

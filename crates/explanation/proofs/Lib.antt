@@ -1,0 +1,11 @@
+pub mod OtherKinds
+pub mod Above
+pub mod AtLine
+pub mod Ticks
+pub mod Searched
+pub mod Following
+pub mod ByEvent
+pub mod Stopping
+pub mod Whatever
+pub mod Refusing
+pub mod Explained

@@ -1,0 +1,93 @@
+-- `explanation::followed` meets its contract: each turn follows the run to the next tick at which a line falls due.
+-- Assumes nothing.
+use Prim.Native.Nat.{_-_}
+use mathlib.Core.Path.{ap, _∙_}
+use borrow.Author.Tests.{not-true, not-false}
+use Rattle.explanation.specs.declared.Answer.the-variants.{Stopped}
+use Rattle.explanation.proofs.Following.{Followed, at-start, held-good, run-good, waits, one-good, at-next, still-running, has-stopped}
+use borrow.Author.Needs.{needs}
+use native.Mathlib.Omega.{arith}
+use Rattle.explanation.proofs.followed.Statement.{statement}
+use Rattle.explanation.proofs.followed.Tie as tie
+
+abbrev Inv-loop : tie.InvT-loop
+Inv-loop p k limit held₀ ran₀ tick₀ held ran tick = Followed p k limit held ran tick
+
+abbrev μ-loop : tie.MeasureT-loop
+μ-loop p k limit held₀ ran₀ tick₀ held ran tick = limit - tick
+
+begun-requires : tie.Need-begun-requires Inv-loop μ-loop
+begun-requires c κs = search needs
+
+start-requires : tie.Need-start-requires Inv-loop μ-loop
+start-requires c κs = search needs
+
+loop-holds : tie.Need-loop-holds Inv-loop μ-loop
+loop-holds c = at-start _ _ _ (c .before .begun .ensures) (c .start .ensures)
+
+stop-of-requires : tie.Need-stop-of-requires Inv-loop μ-loop
+stop-of-requires c κs =
+    let pre = c .before .before .before .before .before .before .before .pre in
+    let f = c .before .before .before .loop .inv in
+    let g = held-good _ _ _ f (pre .1) in
+    (pre .0, run-good _ _ _ f (pre .1) .lineInProgram, g .0, g .1)
+
+returns : tie.Need-returns Inv-loop μ-loop
+returns c =
+    let loop = c .before .before .before .before .loop in
+    ap Stopped (c .stop-of .ensures) ∙ has-stopped _ _ _ (loop .inv) (not-true _ (c .before .if1 .taken))
+
+cast-wait : tie.Need-cast-wait Inv-loop μ-loop
+cast-wait c = search needs
+
+sub-if2 : tie.Need-sub-if2 Inv-loop μ-loop
+sub-if2 c = let f = c .before .before .before .before .loop .inv .within in search needs
+
+returns-2 : tie.Need-returns-2 Inv-loop μ-loop
+returns-2 c =
+    let loop = c .before .before .before .before .before .loop in
+    let if1 = c .before .before .if1 in
+    still-running _ _ _ (loop .inv) (not-false _ (if1 .left)) (c .if2 .taken)
+
+add-tick : tie.Need-add-tick Inv-loop μ-loop
+add-tick c = let f = c .before .before .before .before .before .loop .inv .within in search needs
+
+tick-requires : tie.Need-tick-requires Inv-loop μ-loop
+tick-requires c κs =
+    let pre = c .before .before .before .before .before .before .before .before .before .pre in
+    let loop = c .before .before .before .before .before .loop in
+    let if1 = c .before .before .if1 in
+    (pre .0, one-good _ _ _ (loop .inv) (not-false _ (if1 .left)) (pre .1))
+
+loop-less : tie.Need-loop-less Inv-loop μ-loop
+loop-less c =
+    let loop = c .before .before .before .before .before .before .loop in
+    let if1 = c .before .before .before .if1 in
+    let f = loop .inv .within in
+    let w = waits _ _ _ (loop .inv) (not-false _ (if1 .left)) in
+    omega (arith, c .before .if2 .left)
+
+loop-again : tie.Need-loop-again Inv-loop μ-loop
+loop-again c =
+    let loop = c .before .before .before .before .before .before .loop in
+    let if1 = c .before .before .before .if1 in
+    at-next _ _ _ (loop .inv) (not-false _ (if1 .left)) (c .before .if2 .left) (c .tick .ensures)
+
+pub followed-spec : {M : Type 1} → statement M
+followed-spec =
+    tie.close
+    (tie.spec
+    Inv-loop
+    μ-loop
+    begun-requires
+    start-requires
+    loop-holds
+    stop-of-requires
+    returns
+    cast-wait
+    sub-if2
+    returns-2
+    add-tick
+    tick-requires
+    loop-less
+    loop-again)

@@ -1,0 +1,3 @@
+pub mod Report
+pub mod Reasons
+pub mod Facts
