@@ -15,12 +15,12 @@ use Rattle.running.specs.declared.Run.{Run}
 use Rattle.running.specs.Running.{counter, most}
 use Rattle.running.specs.Moments.{lastDue}
 use Rattle.explanation.specs.declared.Cause.the-variants.{ForLine, Sought, ForAbove, StateLine, Nothing}
-use Rattle.explanation.specs.Report.{firstDue, holderOf, soughtBy, aboveBy, causeOf}
+use Rattle.explanation.specs.Report.{firstDue, holderIn, soughtBy, aboveBy, causeOf}
 
 module _ (p : List ℕ) (e tick line : ℕ) (held : Run) where
   -- ---- which rule an event has
 
-  pub event-006 : e ≡ 6 → causeOf p e tick line held ≡ holderOf p tick held (lineAt p line)
+  pub event-006 : e ≡ 6 → causeOf p e tick line held ≡ holderIn (lastDue p most (firstDue tick held)) (lineAt p line)
   unfolding causeOf
   event-006 is = rw is
 
@@ -44,7 +44,7 @@ module _ (p : List ℕ) (e tick line : ℕ) (held : Run) where
 
   pub cause-006 : {c x : ℕ} → e ≡ 6 → lineAt p line ≡ For c x
       → causeOf p e tick line held ≡ ForLine (counter (lastDue p most (firstDue tick held)) c .line)
-  cause-006 is l = event-006 is ∙ ap (holderOf p tick held) l
+  cause-006 is l = event-006 is ∙ ap (holderIn (lastDue p most (firstDue tick held))) l
 
   pub cause-007 : {c x : ℕ} → e ≡ 7 → lineAt p line ≡ For c x → causeOf p e tick line held ≡ Sought c
   cause-007 is l = event-007 is ∙ ap soughtBy l

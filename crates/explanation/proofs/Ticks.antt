@@ -7,6 +7,7 @@ use mathlib.Core.Bool.{Bool, true, false, true≢false}
 use mathlib.Core.List.{List}
 use lib.Dec.{ltb}
 use borrow.Author.Tests.{ltb-true, ltb-false}
+use Rattle.formats.proofs.Order.{last-or-before}
 use Rattle.running.specs.declared.Run.{Run}
 use Rattle.running.specs.declared.Ran.{Ran}
 use Rattle.running.specs.Running.{waiting, start, tick}
@@ -59,23 +60,38 @@ module _ (p : List ℕ) (k o : ℕ) where
   did-kept lt zero = rw did-start (start-kept p k o lt)
   did-kept lt (suc n) = rw (did-next n) (tick-kept p (did p k o n .run) (did-kept lt n))
 
-  -- while it runs, there is no event
-  pub did-runs : (n : ℕ) → did p k o n .run .on ≡ true → Runs (did p k o n)
-  did-runs zero on = go (did p k o 0) on (rw did-start (start-told p k o))
-    where
-      go : (x : Ran) → x .run .on ≡ true → Ending.Told x → Runs x
-      go x on (Ending.goesOn so event) = record { on = so; event = event }
-      go x on (Ending.hasEnded off _) = absurd (true≢false (sym on ∙ off))
-  did-runs (suc n) on = go (did p k o n .run .on) refl
-    where
-      told : (x : Ran) → x .run .on ≡ true → Ending.Told x → Runs x
-      told x on (Ending.goesOn so event) = record { on = so; event = event }
-      told x on (Ending.hasEnded off _) = absurd (true≢false (sym on ∙ off))
+  -- an event exactly at the end, while the program runs until then
+  did-told : (n : ℕ) → ((m : ℕ) → m < n → did p k o m .run .on ≡ true) → Ending.Told (did p k o n)
+  did-told zero before = rw did-start (start-told p k o)
+  did-told (suc n) before = rw (did-next n) (tick-told p (did p k o n .run) (before n (omega arith)))
 
-      go : (t : Bool) → did p k o n .run .on ≡ t → Runs (did p k o (suc n))
-      go true was = told (did p k o (suc n)) on (rw (did-next n) (tick-told p (did p k o n .run) was))
+  -- so without an event it runs,
+  pub told-on : (n : ℕ) → ((m : ℕ) → m < n → did p k o m .run .on ≡ true) → did p k o n .event ≡ 0 → did p k o n .run .on ≡ true
+  told-on n before none = go (did-told n before)
+    where
+      go : Ending.Told (did p k o n) → did p k o n .run .on ≡ true
+      go (Ending.goesOn on _) = on
+      go (Ending.hasEnded _ some) = absurd (some none)
+
+  -- it ran before, where it runs,
+  ran-before : (n : ℕ) → did p k o n .run .on ≡ true → (m : ℕ) → m < n → did p k o m .run .on ≡ true
+  ran-before zero on m lt = absurd (omega arith)
+  ran-before (suc n) on m lt =
+      let was : did p k o n .run .on ≡ true = go (did p k o n .run .on) refl in
+      last-or-before m n lt (λ is. ap (λ i. did p k o i .run .on) is ∙ was) (ran-before n was m)
+    where
+      go : (t : Bool) → did p k o n .run .on ≡ t → did p k o n .run .on ≡ true
+      go true was = was
       go false was =
           absurd (true≢false (sym on ∙ ap (λ (x : Ran). x .run .on) (did-next n ∙ tick-off p (did p k o n .run) was) ∙ was))
+
+  -- and while it runs, there is no event
+  pub did-runs : (n : ℕ) → did p k o n .run .on ≡ true → Runs (did p k o n)
+  did-runs n on = go (did-told n (ran-before n on))
+    where
+      go : Ending.Told (did p k o n) → Runs (did p k o n)
+      go (Ending.goesOn so event) = record { on = so; event = event }
+      go (Ending.hasEnded off _) = absurd (true≢false (sym on ∙ off))
 
   -- it waits for at least one tick
   pub waits-some : (n : ℕ) → did p k o n .run .on ≡ true → 0 < did p k o n .run .wait

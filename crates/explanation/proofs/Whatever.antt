@@ -11,11 +11,10 @@ use Rattle.lines.specs.declared.Line.the-variants.{State, For, Next, Bad}
 use Rattle.lines.specs.Program.{lineAt}
 use Rattle.lines.specs.Searches.{firstOf}
 use Rattle.running.specs.declared.Run.{Run}
-use Rattle.running.specs.Running.{counter, withOutputs, most}
+use Rattle.running.specs.Running.{withOutputs, most}
 use Rattle.running.specs.Moments.{lastDue}
 use Rattle.running.proofs.Aside.{SameButOutputs, same, outputs-aside, SameRun, sameRun, onward-aside, last-aside}
-use Rattle.explanation.specs.declared.Cause.the-variants.{ForLine}
-use Rattle.explanation.specs.Report.{did, stopTick, heldAt, firstDue, holderOf, causeOf, stopOf, stopAt, outcome}
+use Rattle.explanation.specs.Report.{did, stopTick, heldAt, firstDue, holderIn, causeOf, stopOf, stopAt, outcome}
 
 -- two tests that say the same of each number find the same first one
 first-same : (f g : ℕ → Bool) → ((i : ℕ) → f i ≡ g i) → (n k : ℕ) → firstOf f n k ≡ firstOf g n k
@@ -33,19 +32,23 @@ module _ (p : List ℕ) where
   due-aside zero v h = refl
   due-aside (suc n) v h = rw (ne-eqb (suc n) 0 (λ z. omega arith)) (onward-aside p v h)
 
-  holder-aside : (n v : ℕ) (h : Run) (l : Line) → holderOf p n (withOutputs v h) l ≡ holderOf p n h l
-  holder-aside n v h (State o t) = refl
-  holder-aside n v h (For c x) = ap (λ (r : Run). ForLine (counter (lastDue p most r) c .line)) (due-aside n v h) ∙ go (last-aside p most v (firstDue n h))
+  holder-aside : (q : ℕ) (last : Run) (l : Line) → holderIn (withOutputs q last) l ≡ holderIn last l
+  holder-aside q last (State o t) = refl
+  holder-aside q last (For c x) = refl
+  holder-aside q last (Next c) = refl
+  holder-aside q last Bad = refl
+
+  -- at the last moment of the call
+  last-holder : (n v : ℕ) (h : Run) (l : Line) → holderIn (lastDue p most (firstDue n (withOutputs v h))) l ≡ holderIn (lastDue p most (firstDue n h)) l
+  last-holder n v h l = ap (λ (r : Run). holderIn (lastDue p most r) l) (due-aside n v h) ∙ go (last-aside p most v (firstDue n h))
     where
       go : SameRun p (lastDue p most (withOutputs v (firstDue n h))) (lastDue p most (firstDue n h))
-          → ForLine (counter (lastDue p most (withOutputs v (firstDue n h))) c .line) ≡ ForLine (counter (lastDue p most (firstDue n h)) c .line)
-      go (sameRun q is) = ap (λ (r : Run). ForLine (counter r c .line)) is
-  holder-aside n v h (Next c) = refl
-  holder-aside n v h Bad = refl
+          → holderIn (lastDue p most (withOutputs v (firstDue n h))) l ≡ holderIn (lastDue p most (firstDue n h)) l
+      go (sameRun q is) = ap (λ (r : Run). holderIn r l) is ∙ holder-aside q (lastDue p most (firstDue n h)) l
 
   cause-aside : (e n line v : ℕ) (h : Run) → causeOf p e n line (withOutputs v h) ≡ causeOf p e n line h
   unfolding causeOf
-  cause-aside e n line v h = rw (holder-aside n v h (lineAt p line))
+  cause-aside e n line v h = rw (last-holder n v h (lineAt p line))
 
   -- ---- from a start on
 

@@ -1,3 +1,4 @@
 pub mod Report
+pub mod NextDue
 pub mod Reasons
 pub mod Facts

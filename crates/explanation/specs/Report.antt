@@ -47,12 +47,12 @@ heldAt p k o (suc n) = did p k o n .run
 unfoldable pub firstDue : ℕ → Run → Run
 firstDue tick held = if eqb tick 0 then held else onward held .run
 
--- "for 006 the line of the For that holds the counter", at line l: that line stands in the counter at the last moment of the call
-abbrev pub holderOf : List ℕ → ℕ → Run → Line → Cause
-holderOf p tick held (State outputs time) = Nothing
-holderOf p tick held (For c count) = ForLine (counter (lastDue p most (firstDue tick held)) c .line)
-holderOf p tick held (Next c) = Nothing
-holderOf p tick held Bad = Nothing
+-- "for 006 the line of the For that holds the counter": it stands in the counter at the last moment of the call
+abbrev pub holderIn : Run → Line → Cause
+holderIn last (State outputs time) = Nothing
+holderIn last (For c count) = ForLine (counter last c .line)
+holderIn last (Next c) = Nothing
+holderIn last Bad = Nothing
 
 -- "for 007 the counter sought"
 abbrev pub soughtBy : Line → Cause
@@ -72,7 +72,7 @@ aboveBy p k Bad = Nothing
 -- others none"
 unfoldable pub causeOf : List ℕ → ℕ → ℕ → ℕ → Run → Cause
 causeOf p event tick line held =
-    if eqb event 6 then holderOf p tick held (lineAt p line)
+    if eqb event 6 then holderIn (lastDue p most (firstDue tick held)) (lineAt p line)
     else if eqb event 7 then soughtBy (lineAt p line)
     else if eqb event 8 then aboveBy p line (lineAt p line)
     else if eqb event 13 then (if eqb tick 0 then Nothing else StateLine (held .line))

@@ -1,15 +1,15 @@
 // The cause of a stop, by its event: 02, item 9. Definitions: `causeOf` and `stopOf` of specs/Report.antt.
 ghost use mathlib.Core.Path.{_≡_};
-ghost use mathlib.Core.Bool.{true};
 ghost use mathlib.Core.List.{[]};
 ghost use Prim.Native.Nat.{_<_};
 ghost use lib.Dec.{eqb};
 ghost use Rattle.lines.specs.Program.{IsProgram, lineAt};
-ghost use Rattle.lines.specs.Line.{forCounter};
+ghost use Rattle.lines.specs.Line.{forCounter, Ranges};
 ghost use Rattle.lines.specs.Loops.{counterAt};
 ghost use Rattle.lines.specs.Searches.{someBefore};
-ghost use Rattle.running.specs.Invariant.{RunInvariant};
-ghost use Rattle.explanation.specs.Report.{firstDue, holderOf, soughtBy, aboveBy, causeOf, stopOf};
+ghost use Rattle.running.specs.Moments.{lastDue};
+ghost use Rattle.running.specs.Due.{freed};
+ghost use Rattle.explanation.specs.Report.{firstDue, holderIn, soughtBy, aboveBy, causeOf, stopOf};
 use crate::Cause;
 use crate::Stop;
 use lines::Line;
@@ -42,30 +42,16 @@ fn is_for_above(p: &[u8], c: u8, k: u8) -> bool
     false
 }
 
-// The moment at which the first line of a call falls due: at tick 0 that of the start, else that behind the State line that was held.
-fn first_due(tick: u32, held: Run) -> Run
-    ensures run { λ r. ⌜ r ≡ firstDue tick held ⌝ }
+// 006: the line of the For that holds the counter, which stands in it at the last moment of the call.
+fn holder_in(run: Run, l: Line) -> Cause
+    requires { ⌜ Ranges l ⌝ }
+    ensures cause { λ r. ⌜ r ≡ holderIn run l ⌝ }
 {
-    if tick == 0 {
-        return held;
-    }
-    let s = held.onward();
-    s.run
-}
-
-// 006: the line of the For that holds the counter.
-fn holder_of(p: &[u8], tick: u32, line: u8, held: Run) -> Cause
-    requires { ⌜ IsProgram (now p) × (line < 200) × (held .on ≡ true) × (RunInvariant held) ⌝ }
-    ensures cause { λ r. ⌜ r ≡ holderOf (now (p .entry)) tick held (lineAt (now (p .entry)) line) ⌝ }
-{
-    let l = lines::line_at(p, line as usize);
     let Line::For { counter, count: _ } = l else {
         return Cause::Nothing;
     };
-    let due = first_due(tick, held);
-    let last = due.last_moment(p);
     let c = (counter - 1) as usize;
-    let holder = last.counters[c];
+    let holder = run.counters[c];
     Cause::ForLine(holder.line)
 }
 
@@ -101,13 +87,14 @@ fn state_held(tick: u32, held: Run) -> Cause
     Cause::StateLine(held.line)
 }
 
-// The cause of an event that came at this tick and on this line; `held` is the run before its call.
-fn cause_of(p: &[u8], event: u8, tick: u32, line: u8, held: Run) -> Cause
-    requires { ⌜ IsProgram (now p) × (line < 200) × (held .on ≡ true) × (RunInvariant held) ⌝ }
+// The cause of an event that came at this tick and on this line; `held` is the run before the tick, `last` that of its last moment, if it came
+// with 006.
+fn cause_of(p: &[u8], event: u8, tick: u32, line: u8, held: Run, last: Run) -> Cause
+    requires { ⌜ IsProgram (now p) × (line < 200) × (event ≡ 6 → last ≡ lastDue (now p) 400 (firstDue tick held)) ⌝ }
     ensures cause { λ r. ⌜ r ≡ causeOf (now (p .entry)) event tick line held ⌝ }
 {
     if event == 6 {
-        return holder_of(p, tick, line, held);
+        return holder_in(last, lines::line_at(p, line as usize));
     }
     if event == 7 {
         return sought_by(lines::line_at(p, line as usize));
@@ -121,15 +108,15 @@ fn cause_of(p: &[u8], event: u8, tick: u32, line: u8, held: Run) -> Cause
     Cause::Nothing
 }
 
-// How the program stopped in the call `ran`, which was the start or the tick with this number.
+// How the program stopped in the call `ran`, which was the start or the tick with this number; its loops may not be freed yet.
 pub fn stop_of(p: &[u8], tick: u32, held: Run, ran: Ran) -> Stop
-    requires { ⌜ IsProgram (now p) × (ran .run .line < 200) × (held .on ≡ true) × (RunInvariant held) ⌝ }
-    ensures stop { λ r. ⌜ r ≡ stopOf (now (p .entry)) tick held ran ⌝ }
+    requires { ⌜ IsProgram (now p) × (ran .run .line < 200) × (ran .event ≡ 6 → ran .run ≡ lastDue (now p) 400 (firstDue tick held)) ⌝ }
+    ensures stop { λ r. ⌜ r ≡ stopOf (now (p .entry)) tick held (freed ran) ⌝ }
 {
     let event = ran.event;
     let run = ran.run;
     let line = run.line;
-    let cause = cause_of(p, event, tick, line, held);
+    let cause = cause_of(p, event, tick, line, held, run);
     Stop {
         event,
         tick,

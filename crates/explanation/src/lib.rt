@@ -1,10 +1,15 @@
 // How a program that is started at a line stops, and why, or that it still runs after so many ticks: 02, item 9.
 // Definitions: specs/Report.antt for the answer and its refusals, specs/Facts.antt for what it is proved to be.
 ghost use mathlib.Core.Path.{_≡_};
+ghost use mathlib.Core.Bool.{true};
 ghost use Prim.Native.Nat.{_≤_, _<_};
 ghost use Rattle.formats.specs.Checks.{passed};
 ghost use Rattle.lines.specs.Program.{IsProgram};
+ghost use Rattle.running.specs.Invariant.{RunInvariant};
 ghost use Rattle.explanation.specs.Report.{outcome, report, answerOf, causeNumber};
+ghost use Rattle.explanation.specs.NextDue.{NextDue};
+use running::How;
+use running::Ran;
 use running::Run;
 
 mod causes;
@@ -41,6 +46,24 @@ pub enum Answer {
 // The most ticks for which a program is followed.
 pub const MOST_TICKS: u64 = 100000;
 
+// The tick on which the line behind a held State falls due. The loops are not freed yet, where it ends the program.
+fn next_due(held: Run, p: &[u8]) -> Ran
+    requires { ⌜ IsProgram (now p) × (held .on ≡ true) × (held .wait ≤ 1) × (RunInvariant held) ⌝ }
+    ensures due { λ r. ⌜ NextDue (now (p .entry)) held r ⌝ }
+{
+    let s = held.onward();
+    let run = s.run;
+    let how = s.how;
+    let How::Ends(event) = how else {
+        return run.due(p);
+    };
+    Ran {
+        run,
+        event,
+        lines: 0,
+    }
+}
+
 // A start at line k, followed for so many ticks. Each turn takes all ticks of the State line that is held. What the outputs are at the start
 // makes no difference.
 fn followed(p: &[u8], k: u8, limit: u32) -> Answer
@@ -49,13 +72,13 @@ fn followed(p: &[u8], k: u8, limit: u32) -> Answer
 {
     // the run before the last call: that with which the start begins, or that which held a State line before the tick
     let mut held = Run::begun(k, 0);
-    let mut ran = running::start(p, k, 0);
+    let mut ran = held.due(p);
     let mut tick: u32 = 0;
     loop {
-        let mut run = ran.run;
-        if !run.on {
+        if ran.event != 0 {
             return Answer::Stopped(causes::stop_of(p, tick, held, ran));
         }
+        let mut run = ran.run;
         let wait = run.wait as u32;
         if limit - tick < wait {
             return Answer::Running;
@@ -63,7 +86,7 @@ fn followed(p: &[u8], k: u8, limit: u32) -> Answer
         tick += wait;
         run.wait = 1;
         held = run;
-        ran = held.tick(p);
+        ran = next_due(held, p);
     }
 }
 

@@ -3,16 +3,13 @@
 use Prim.Native.Nat.{ℕ, zero, suc, _+_, _-_}
 use native.Mathlib.Omega.{arith}
 use native.Mathlib.Nat.{zero-add}
-use mathlib.Core.Path.{_≡_, refl, sym, ap, _∙_}
-use mathlib.Core.Bool.{false, true≢false}
+use mathlib.Core.Path.{_≡_, refl, ap, _∙_}
 use mathlib.Core.List.{List}
-use Rattle.lines.specs.Program.{lineAt}
 use Rattle.running.specs.declared.Run.{Run}
-use Rattle.running.specs.declared.How.the-variants.{Holds, Ends, GoesOn}
+use Rattle.running.specs.declared.How.the-variants.{Ends, GoesOn}
 use Rattle.running.specs.declared.Step.{Step}
-use Rattle.running.specs.Running.{isForOrNext, step}
+use Rattle.running.specs.Running.{step}
 use Rattle.running.specs.Moments.{Within, here, on, Cause, byLine, over, Stops, lastDue}
-use Rattle.running.proofs.Causes.{Way, isHeld, hasEnded, goesOn, step-way}
 
 module _ (p : List ℕ) where
   pub last-goes : (left : ℕ) (r : Run) → step p r .how ≡ GoesOn → lastDue p (suc left) r ≡ lastDue p left (step p r .run)
@@ -24,23 +21,9 @@ module _ (p : List ℕ) where
   last-ends zero r how = refl
   last-ends (suc left) r how = rw how
 
-  last-holds : (left : ℕ) (r : Run) → step p r .how ≡ Holds → lastDue p left r ≡ r
-  unfolding lastDue
-  last-holds zero r how = refl
-  last-holds (suc left) r how = rw how
-
   pub last-none : (r : Run) → lastDue p 0 r ≡ r
   unfolding lastDue
   last-none r = refl
-
-  -- at a line that is neither a For nor a Next a call ends
-  pub last-plain : (left : ℕ) (r : Run) → isForOrNext (lineAt p (r .line)) ≡ false → lastDue p left r ≡ r
-  last-plain left r plain = go (step-way p r)
-    where
-      go : Way p r (step p r) → lastDue p left r ≡ r
-      go (isHeld _ _ is) = last-holds left r (ap (λ (s : Step). s .how) is)
-      go (hasEnded e u _ is) = last-ends left r (ap (λ (s : Step). s .how) is)
-      go (goesOn loop _) = absurd (true≢false (sym loop ∙ plain))
 
   -- what falls due n lines later in the call
   within-last : (b : Run) {n : ℕ} (s : Run) (left : ℕ) → Within p b n s → lastDue p (n + left) b ≡ lastDue p left s

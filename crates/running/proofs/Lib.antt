@@ -5,6 +5,7 @@ pub mod Steps
 pub mod Invariant
 pub mod Causes
 pub mod LastDue
+pub mod Freeing
 pub mod Turns
 pub mod Ending
 pub mod Outputs

@@ -26,11 +26,13 @@ use Rattle.running.specs.declared.Turn.{Turn}
 use Rattle.running.specs.Running.{free, counter, ends, onward, tick, runLine, isForOrNext, stops, rests, follow, step, runDue}
 use Rattle.running.specs.Turn.{counterOf, turned, Leads}
 use Rattle.running.specs.Moments.{lastDue}
+use Rattle.running.specs.Due.{freed}
 use Rattle.running.proofs.How as H
 use Rattle.running.proofs.Ways.{onward-ways, state-ways, for-ways, next-ways}
 use Rattle.running.proofs.Invariant.{Going, onward-going, step-going}
 use Rattle.running.proofs.Waiting.{due-at}
 use Rattle.running.proofs.LastDue as LastDue
+use Rattle.running.proofs.Freeing.{freed-ends, some-event, busy-stays}
 use Rattle.running.proofs.Steps.{bad-line, loop-counts, loop-over}
 
 -- ---- the counters that lines name
@@ -129,16 +131,24 @@ module _ (p : List ℕ) (r : Run) (n : ℕ) (l : Line) (c : ℕ) (t : Turn)
   due-goes-on g =
       turn ∙ simp (going-on (t .how) (ap (λ (s : Step). isHolds (s .how)) is ∙ never-holds p l r counts) g)
 
-  -- the last moment of the call is this one, where it ends the program,
-  pub last-here : {e : ℕ} → t .how ≡ Ends e → r ≡ lastDue p (400 - n) r
-  last-here w = sym (LastDue.last-ends p (400 - n) r (ap (λ (s : Step). s .how) (sym is-step) ∙ w))
+  how-is : {h : How} → t .how ≡ h → step p r .how ≡ h
+  how-is w = ap (λ (s : Step). s .how) (sym is-step) ∙ w
 
-  -- or what it is from the next line on,
+  -- what it leaves before the loops are freed, where it ends the program
+  pub due-left : {e : ℕ} → t .how ≡ Ends e → freed (record { run = turned c t r .run; event = e; lines = n + 1 }) ≡ runDue p (400 - n) n r
+  due-left w = freed-ends _ (some-event p r (how-is w)) ∙ due-ends w
+
+  -- with 006 that is the last moment of the call;
+  pub last-busy : {e : ℕ} → t .how ≡ Ends e → e ≡ 6 → turned c t r .run ≡ lastDue p (400 - n) r
+  last-busy w six =
+      ap (λ (s : Step). s .run) is-step ∙ busy-stays p r (how-is w) six ∙ sym (LastDue.last-ends p (400 - n) r (how-is w))
+
+  -- where it goes on, that is what it is from the next line on,
   pub last-further : OneOf (0 ∷ 2 ∷ []) (tagOf H.the-type (t .how)) → lastDue p (400 - n) r ≡ lastDue p (400 - (n + 1)) (turned c t r .run)
   last-further g =
       let e : 400 - n ≡ suc (400 - (n + 1)) = omega arith in
       let how = going-on (t .how) (ap (λ (s : Step). isHolds (s .how)) is ∙ never-holds p l r counts) g in
-      ap (λ i. lastDue p i r) e ∙ LastDue.last-goes p (400 - (n + 1)) r (ap (λ (s : Step). s .how) (sym is-step) ∙ how)
+      ap (λ i. lastDue p i r) e ∙ LastDue.last-goes p (400 - (n + 1)) r (how-is how)
       ∙ ap (λ (s : Step). lastDue p (400 - (n + 1)) (s .run)) (sym is-step)
 
   -- and the run goes on
@@ -164,16 +174,9 @@ module _ (p : List ℕ) (r : Run) (n : ℕ) where
   none-left due none zero = refl
   none-left due none (suc left) = last-left _ (sym due) (line-named p (r .line) due .uncounted none) left
 
-  -- there the call has its last moment
-  pub last-uncounted : {l : Line} → l ≡ lineAt p (r .line) → counterOf l ≡ 0 → r ≡ lastDue p (400 - n) r
-  last-uncounted due none = sym (LastDue.last-plain p (400 - n) r (ap isForOrNext (sym due) ∙ line-named p (r .line) due .uncounted none))
-
 -- when 400 were run none is left
 pub all-counted : (p : List ℕ) (r : Run) (n : ℕ) → 400 ≤ n → runDue p 0 n r ≡ runDue p (400 - n) n r
 all-counted p r n le = let z : 400 - n ≡ 0 = omega arith in rw z
-
-pub last-counted : (p : List ℕ) (r : Run) (n : ℕ) → 400 ≤ n → r ≡ lastDue p (400 - n) r
-last-counted p r n le = let z : 400 - n ≡ 0 = omega arith in sym (ap (λ i. lastDue p i r) z ∙ LastDue.last-none p r)
 
 -- a line that is neither Bad nor State is counted
 other-counted : (l : Line) → OneOf (0 ∷ 1 ∷ 2 ∷ []) (tagOf L.the-type l) → OneOf (1 ∷ 2 ∷ 3 ∷ []) (tagOf L.the-type l) → isForOrNext l ≡ true

@@ -5,3 +5,4 @@ pub mod Ended
 pub mod Ticking
 pub mod Gone
 pub mod Moments
+pub mod Due

@@ -9,7 +9,7 @@ ghost use Rattle.lines.specs.declared.Line.the-variants.{State};
 ghost use Rattle.running.specs.Running.{free, allFree, freshRun, begun, withOutputs, stopped, onward, runLine};
 ghost use Rattle.running.specs.Running.{stops, runDue, start, tick};
 ghost use Rattle.running.specs.Invariant.{RunInvariant};
-ghost use Rattle.running.specs.Moments.{lastDue};
+ghost use Rattle.running.specs.Due.{Due};
 use lines::Line;
 
 mod loops;
@@ -214,10 +214,11 @@ impl Run {
         }
     }
 
-    // Lines are run until one is held or ends the program, at most 400 of them For or Next.
-    fn run_due(self, p: &[u8]) -> Ran
+    // Lines are run until one is held or ends the program, at most 400 of them For or Next. Where the program has ended, its loops may not be
+    // freed yet.
+    pub fn due(self, p: &[u8]) -> Ran
         requires { ⌜ IsProgram (now p) × (self .on ≡ true) × (RunInvariant self) ⌝ }
-        ensures ran { λ r. ⌜ r ≡ runDue (now (p .entry)) 400 0 self ⌝ }
+        ensures due { λ r. ⌜ Due (now (p .entry)) self r ⌝ }
     {
         let mut run = self;
         let mut n: u16 = 0;
@@ -237,40 +238,28 @@ impl Run {
             run.line = t.line;
             let how = t.how;
             if let How::Ends(event) = how {
-                return run.ended(event, n);
+                return Ran {
+                    run,
+                    event,
+                    lines: n,
+                };
             }
         }
         run.last_due(p, n)
     }
 
-    // The run at the line with which a call ends: that line is neither a For nor a Next, or ends the program, or is behind 400 others. No
-    // call of the box needs it: a program that has stopped has let its counters go, and this says what they held.
-    pub fn last_moment(self, p: &[u8]) -> Run
+    // The same, and the loops are freed.
+    fn run_due(self, p: &[u8]) -> Ran
         requires { ⌜ IsProgram (now p) × (self .on ≡ true) × (RunInvariant self) ⌝ }
-        ensures run { λ r. ⌜ r ≡ lastDue (now (p .entry)) 400 self ⌝ }
+        ensures ran { λ r. ⌜ r ≡ runDue (now (p .entry)) 400 0 self ⌝ }
     {
-        let mut run = self;
-        let mut n: u16 = 0;
-        while n < 400 {
-            let k = run.line;
-            let line = lines::line_at(p, k as usize);
-            let counter = loops::counter_of(line);
-            if counter == 0 {
-                return run;
-            }
-            let c = (counter - 1) as usize;
-            let before = run.counters[c];
-            let t = loops::turn_of(p, line, k, before);
-            let how = t.how;
-            if let How::Ends(_) = how {
-                return run;
-            }
-            n += 1;
-            let held = t.held;
-            run.counters[c] = held;
-            run.line = t.line;
+        let r = self.due(p);
+        let event = r.event;
+        if event == 0 {
+            return r;
         }
-        run
+        let run = r.run;
+        run.ended(event, r.lines)
     }
 
     // One tick taken unpaused: a State line is held on, or the program goes on to the line after it.

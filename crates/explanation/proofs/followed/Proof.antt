@@ -1,10 +1,10 @@
 -- `explanation::followed` meets its contract: each turn follows the run to the next tick at which a line falls due.
 -- Assumes nothing.
 use Prim.Native.Nat.{_-_}
-use mathlib.Core.Path.{ap, _∙_}
-use borrow.Author.Tests.{not-true, not-false}
+use mathlib.Core.Path.{refl, ap, _∙_}
+use Rattle.running.proofs.Invariant.{begun-going, still}
 use Rattle.explanation.specs.declared.Answer.the-variants.{Stopped}
-use Rattle.explanation.proofs.Following.{Followed, at-start, held-good, run-good, waits, one-good, at-next, still-running, has-stopped}
+use Rattle.explanation.proofs.Following.{Followed, at-start, in-program, runs, waits, one-good, at-next, still-running, has-stopped}
 use borrow.Author.Needs.{needs}
 use native.Mathlib.Omega.{arith}
 use Rattle.explanation.proofs.followed.Statement.{statement}
@@ -19,23 +19,24 @@ abbrev μ-loop : tie.MeasureT-loop
 begun-requires : tie.Need-begun-requires Inv-loop μ-loop
 begun-requires c κs = search needs
 
-start-requires : tie.Need-start-requires Inv-loop μ-loop
-start-requires c κs = search needs
+due-requires : tie.Need-due-requires Inv-loop μ-loop
+due-requires c κs =
+    let pre = c .before .before .pre in
+    rw (c .begun .ensures) (pre .0, refl, still (begun-going _ 0 (pre .1)))
 
 loop-holds : tie.Need-loop-holds Inv-loop μ-loop
-loop-holds c = at-start _ _ _ (c .before .begun .ensures) (c .start .ensures)
+loop-holds c = at-start _ _ _ (c .before .begun .ensures) (c .due .ensures)
 
 stop-of-requires : tie.Need-stop-of-requires Inv-loop μ-loop
 stop-of-requires c κs =
-    let pre = c .before .before .before .before .before .before .before .pre in
-    let f = c .before .before .before .loop .inv in
-    let g = held-good _ _ _ f (pre .1) in
-    (pre .0, run-good _ _ _ f (pre .1) .lineInProgram, g .0, g .1)
+    let pre = c .before .before .before .before .before .before .pre in
+    let f = c .before .before .loop .inv in
+    (pre .0, in-program _ _ _ f (pre .1), f .busy)
 
 returns : tie.Need-returns Inv-loop μ-loop
 returns c =
-    let loop = c .before .before .before .before .loop in
-    ap Stopped (c .stop-of .ensures) ∙ has-stopped _ _ _ (loop .inv) (not-true _ (c .before .if1 .taken))
+    let loop = c .before .before .before .loop in
+    ap Stopped (c .stop-of .ensures) ∙ has-stopped _ _ _ (loop .inv) (c .before .if1 .taken)
 
 cast-wait : tie.Need-cast-wait Inv-loop μ-loop
 cast-wait c = search needs
@@ -46,32 +47,36 @@ sub-if2 c = let f = c .before .before .before .before .loop .inv .within in sear
 returns-2 : tie.Need-returns-2 Inv-loop μ-loop
 returns-2 c =
     let loop = c .before .before .before .before .before .loop in
-    let if1 = c .before .before .if1 in
-    still-running _ _ _ (loop .inv) (not-false _ (if1 .left)) (c .if2 .taken)
+    let if1 = c .before .before .before .if1 in
+    still-running _ _ _ (loop .inv) (if1 .left) (c .if2 .taken)
 
 add-tick : tie.Need-add-tick Inv-loop μ-loop
 add-tick c = let f = c .before .before .before .before .before .loop .inv .within in search needs
 
-tick-requires : tie.Need-tick-requires Inv-loop μ-loop
-tick-requires c κs =
-    let pre = c .before .before .before .before .before .before .before .before .before .pre in
-    let loop = c .before .before .before .before .before .loop in
-    let if1 = c .before .before .if1 in
-    (pre .0, one-good _ _ _ (loop .inv) (not-false _ (if1 .left)) (pre .1))
+next-due-requires : tie.Need-next-due-requires Inv-loop μ-loop
+next-due-requires c κs = (
+  c .before .before .before .before .before .before .before .before .before .pre .0,
+  runs _ _ _ (c .before .before .before .before .before .loop .inv) (c .before .before .before .if1 .left),
+  search needs,
+  let pre = c .before .before .before .before .before .before .before .before .before .pre in
+      let loop = c .before .before .before .before .before .loop in
+      let if1 = c .before .before .before .if1 in
+      one-good _ _ _ (loop .inv) (if1 .left) (pre .1),
+)
 
 loop-less : tie.Need-loop-less Inv-loop μ-loop
 loop-less c =
     let loop = c .before .before .before .before .before .before .loop in
-    let if1 = c .before .before .before .if1 in
+    let if1 = c .before .before .before .before .if1 in
     let f = loop .inv .within in
-    let w = waits _ _ _ (loop .inv) (not-false _ (if1 .left)) in
+    let w = waits _ _ _ (loop .inv) (if1 .left) in
     omega (arith, c .before .if2 .left)
 
 loop-again : tie.Need-loop-again Inv-loop μ-loop
 loop-again c =
     let loop = c .before .before .before .before .before .before .loop in
-    let if1 = c .before .before .before .if1 in
-    at-next _ _ _ (loop .inv) (not-false _ (if1 .left)) (c .before .if2 .left) (c .tick .ensures)
+    let if1 = c .before .before .before .before .if1 in
+    at-next _ _ _ (loop .inv) (if1 .left) (c .before .if2 .left) (c .next-due .ensures)
 
 pub followed-spec : {M : Type 1} → statement M
 followed-spec =
@@ -80,7 +85,7 @@ followed-spec =
     Inv-loop
     μ-loop
     begun-requires
-    start-requires
+    due-requires
     loop-holds
     stop-of-requires
     returns
@@ -88,6 +93,6 @@ followed-spec =
     sub-if2
     returns-2
     add-tick
-    tick-requires
+    next-due-requires
     loop-less
     loop-again)

@@ -1,20 +1,31 @@
 -- `explanation::causes::cause_of` meets its contract: event by event.
 -- Assumes nothing.
 use mathlib.Core.Path.{sym, ap, _∙_}
-use Rattle.explanation.specs.Report.{soughtBy}
+use Rattle.lines.specs.Program.{lineAt}
+use Rattle.lines.proofs.Places.{line-ranged}
+use Rattle.running.specs.declared.Run.{Run}
+use Rattle.explanation.specs.Report.{holderIn, soughtBy}
 use Rattle.explanation.proofs.ByEvent.{event-006, event-007, event-008, event-013, event-other}
 use borrow.Author.Needs.{needs}
 use Rattle.explanation.proofs.causes.cause_of.Statement.{statement}
 use Rattle.explanation.proofs.causes.cause_of.Tie as tie
 
-holder-of-requires : tie.Need-holder-of-requires
-holder-of-requires c κs = search needs
-
-returns : tie.Need-returns
-returns c = c .holder-of .ensures ∙ sym (event-006 _ _ _ _ _ (c .before .if1 .taken))
-
 line-at-requires : tie.Need-line-at-requires
 line-at-requires c κs = search needs
+
+holder-in-requires : tie.Need-holder-in-requires
+holder-in-requires c κs = rw (c .line-at .ensures) (line-ranged _ _ .range)
+
+returns : tie.Need-returns
+returns c =
+    let args = c .before .before .before .before .args in
+    let pre = c .before .before .before .before .pre in
+    let if1 = c .before .before .if1 in
+    c .holder-in .ensures ∙ ap (holderIn (args .last)) (c .before .line-at .ensures)
+    ∙ ap (λ (r : Run). holderIn r (lineAt (args .p .now) (args .line))) (pre .2 (if1 .taken)) ∙ sym (event-006 _ _ _ _ _ (if1 .taken))
+
+line-at-requires-2 : tie.Need-line-at-requires-2
+line-at-requires-2 c κs = search needs
 
 sought-by-requires : tie.Need-sought-by-requires
 sought-by-requires c κs = search needs
@@ -22,7 +33,7 @@ sought-by-requires c κs = search needs
 returns-2 : tie.Need-returns-2
 returns-2 c =
     let if2 = c .before .before .if2 in
-    c .sought-by .ensures ∙ ap soughtBy (c .before .line-at .ensures) ∙ sym (event-007 _ _ _ _ _ (if2 .taken))
+    c .sought-by .ensures ∙ ap soughtBy (c .before .line-at2 .ensures) ∙ sym (event-007 _ _ _ _ _ (if2 .taken))
 
 above-by-requires : tie.Need-above-by-requires
 above-by-requires c κs = search needs
@@ -46,9 +57,10 @@ pub cause-of-spec : {M : Type 1} → statement M
 cause-of-spec =
     tie.close
     (tie.spec
-    holder-of-requires
-    returns
     line-at-requires
+    holder-in-requires
+    returns
+    line-at-requires-2
     sought-by-requires
     returns-2
     above-by-requires
