@@ -92,6 +92,8 @@ def misleading(chance):
     lines = chance.choice((
         # 006 on the third For of one: the second was passed over, the first holds it.
         [("F", one, 5), ("F", two, 0), ("F", one, 3), ("N", two), held, ("F", one, count(chance)), ("N", one)],
+        # 006 on the second For of one, behind which no Next of it stands.
+        [("F", one, 2), ("F", two, 0), ("N", one), ("N", two), held, ("F", one, count(chance))],
         # 006 on the first For of one, which a jump comes back to: the second, below, holds it.
         [("F", two, 2), ("F", one, 0), ("N", one), ("F", one, 5), held, ("N", two), ("N", one)],
         # 013 on the Next of two, which a jump comes back to from a State below.

@@ -127,8 +127,9 @@ BUSY = [
     ("for_itself", "F2x2 F1x3 S1 N2 N1 S0", "0 100000", "006 1 001 001", "F10003"),
     ("started_below_a_for", "F1x9 S1 F1x2 S1 F1x3 N1 S0", "1 100000", "006 2 004 002", "F10003"),
     ("started_above_that_for", "F1x9 S1 F1x2 S1 F1x3 N1 S0", "0 100000", "006 1 002 000", "F10002"),
-    # 0, 1 takes counter 1 (3 left), 2 frees 2, 3 t1, 4 takes 2, 5 (2 left) back to 2, 2 (1 left) back to 5, 5 (1 left) back to 2, 2 frees 2,
-    # 3 t2, 4 takes 2, 5 frees 1, 6 takes it (4 left), 7 (1 left) back to 5, 5 (3 left) back to 7, 7 frees 2, 8: one Next was run since 6
+    # 0, 1 takes counter 1 (3 left), 2 frees 2, 3 t1, 4 takes 2, 5 (2 left) back to 2, 2 (1 left) back to 5, 5 (1 left) back to 2,
+    # 2 frees 2, 3 t2, 4 takes 2, 5 frees 1, 6 takes it (4 left), 7 (1 left) back to 5, 5 (3 left) back to 7, 7 frees 2, 8: one Next was
+    # run since 6
     ("one_next_since", "F2x1 F1x3 N2 S1 F2x2 N1 F1x4 N2 F1x2 N1 N2 S0", "0 100000", "006 2 008 006", "F10002"),
     # 20 t5, 21 takes it, 22 t25, 23 passes over 24, 26 t55, 27
     ("stored", "@20 S5 F1x3 S20 F2x0 F1x9 N2 S30 F1x2 S1 N1 N1 S0", "20 1000", "006 55 027 021", "F10002"),
@@ -296,24 +297,26 @@ ORDER = [
 
 WRITTEN = [
     ("written_006", program("S5 S20 F1x2 S40 S30 S20 S10 F1x3 N1 S0"), "0 100000",
-     "006 125 007 002\nStopped after 12.5 s on line 007 (F10003): counter 1 was still in use by the For on line 002. Give the inner loop "
-     "another counter.\n"),
+     "006 125 007 002\nStopped after 12.5 s on line 007 (F10003): counter 1 was still in use by the For on line 002. Give the inner "
+     "loop another counter.\n"),
     ("written_007", program("S10 F3x12 S0"), "0 100000",
-     "007 10 001 3\nStopped after 1.0 s on line 001 (F30012): no Next of counter 3 stands on a later line. Write N3 on the line where the "
-     "loop ends.\n"),
+     "007 10 001 3\nStopped after 1.0 s on line 001 (F30012): no Next of counter 3 stands on a later line. Write N3 on the line where "
+     "the loop ends.\n"),
     ("written_008_yes", program("F2x3 S2 N2 S0"), "1 100000",
-     "008 2 002 yes\nStopped after 0.2 s on line 002 (N2): counter 2 was not in use, although a For of it stands above. Start at that For or "
-     "above it, or take this Next out.\n"),
+     "008 2 002 yes\nStopped after 0.2 s on line 002 (N2): counter 2 was not in use, although a For of it stands above. Start at that For "
+     "or above it, or take this Next out.\n"),
     ("written_008_no", program("S1234 N4 S0"), "0 100000",
-     "008 1234 001 no\nStopped after 123.4 s on line 001 (N4): no For of counter 4 stands above. Write one there, or take this Next out.\n"),
+     "008 1234 001 no\nStopped after 123.4 s on line 001 (N4): no For of counter 4 stands above. Write one there, or take this "
+     "Next out.\n"),
     ("written_009", program("@199 530000000F000064"), "199 100000",
-     "009 100 199 -\nStopped after 10.0 s on line 199 (S0000000F000100): the program went on past line 199, the last one. Write an end mark, "
-     "S00000000000000, on the line where it ends.\n"),
+     "009 100 199 -\nStopped after 10.0 s on line 199 (S0000000F000100): the program went on past line 199, the last one. Write an end "
+     "mark, S00000000000000, on the line where it ends.\n"),
     ("written_011", program(TEN + "S10 53000000000A0000"), "0 100000",
-     "011 100000 011 -\nStopped after 10000.0 s on line 011 (S000000000A0000): the program came to its end mark. Nothing has to be done.\n"),
+     "011 100000 011 -\nStopped after 10000.0 s on line 011 (S000000000A0000): the program came to its end mark. Nothing has to be "
+     "done.\n"),
     ("written_013", program("@42 S99 F1x400 N1"), "42 100000",
-     "013 99 044 042\nStopped after 9.9 s on line 044 (N1): more than 400 For and Next lines fell due in one tick, behind the State on line "
-     "042. Put a State with a time above 0 into the loop.\n"),
+     "013 99 044 042\nStopped after 9.9 s on line 044 (N1): more than 400 For and Next lines fell due in one tick, behind the State on "
+     "line 042. Put a State with a time above 0 into the loop.\n"),
     ("written_013_in_the_start", program("F1x400 N1"), "0 100000",
      "013 0 001 -\nStopped after 0.0 s on line 001 (N1): more than 400 For and Next lines fell due in the start itself. Put a State with a "
      "time above 0 into the loop.\n"),

@@ -1,5 +1,5 @@
-"""Arguments, input and output of the program `explain`: each case is given the program, as the cases of shell.py are. Those go on with named
-files, with standard input and with output that fails.
+"""Arguments, input and output of the program `explain`: each case is given the program, as those of shell.py are. The cases there have
+more of named files, of standard input and of output that fails.
 """
 import fcntl
 import itertools
