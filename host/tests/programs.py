@@ -16,9 +16,9 @@ SLACK = 64 if platform.machine() == "x86_64" else 8192
 
 
 def of_program(program):
-    """A function from input to what the program writes; what is no plain end is told in its place."""
-    def text(given):
-        done = subprocess.run([program], input=given, capture_output=True, check=False, timeout=60)
+    """A function from input and arguments to what the program writes; what is no plain end is told in its place."""
+    def text(given, *arguments):
+        done = subprocess.run([program, *arguments], input=given, capture_output=True, check=False, timeout=60)
         plain = done.returncode == 0 and not done.stderr
         return done.stdout if plain else b"status %d, %r, %r" % (done.returncode, done.stdout[:60], done.stderr[:200])
     return text

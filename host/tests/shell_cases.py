@@ -219,10 +219,10 @@ def terminal(program):
 
 def broken_off(program):
     """Input that fails behind its first bytes, as a line does that is hung up: what was answered before is written."""
-    for piece in (b"", program.sample.piece):
+    for sent in program.sample.unfinished():
         line, other = pty.openpty()
         tty.setraw(other)
-        os.write(other, program.sample.given + piece)
+        os.write(other, sent)
         os.close(other)
         program.fails(program.sample.answer, "cannot read standard input: Input/output error", stdin=line)
         os.close(line)
@@ -230,11 +230,11 @@ def broken_off(program):
 
 def connection_reset(program):
     """A read that fails once, and after which the next one gives an end: it is no end, and what came before is not the whole."""
-    for piece in (b"", program.sample.piece):
+    for sent in program.sample.unfinished():
         with socket.create_server(("127.0.0.1", 0)) as server:
             line = socket.create_connection(server.getsockname())
             other, _ = server.accept()
-        other.sendall(program.sample.given + piece)
+        other.sendall(sent)
         breaker = threading.Thread(target=reset_when_read, args=(other, line))
         breaker.start()
         program.fails(program.sample.answer, "cannot read standard input: Connection reset by peer", stdin=line)
@@ -270,8 +270,8 @@ def output_fails(program):
 
 
 def endless_file(program):
-    """For loglist: no more is read than one byte more than a log has."""
-    program.writes(b"E056\n", "/dev/zero")
+    """No more is read than one byte more than a log or a program has."""
+    program.writes(program.sample.endless, "/dev/zero")
 
 
 # ---- several files, for durations
@@ -352,6 +352,6 @@ def fifo_behind_file(program):
 
 ALL = [named_file, closed_input, dash, missing_file, folder_as_file, unreadable_file, odd_names, empty_name, long_name, unknown_option,
        options, long_argument, fifo, terminal, broken_off, connection_reset, output_fails]
-LOGLIST = [endless_file]
+LIMITED = [endless_file]
 ONE_FILE = [too_many]
 SEVERAL_FILES = [several_files, empty_files, dash_among, failure_among, many_files, opened_in_turn, fifo_behind_file]

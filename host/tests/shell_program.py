@@ -16,6 +16,8 @@ import time
 from typing import NamedTuple
 
 from durations_cases import FIVE
+from explain_cases import END, refused, stopped
+from explain_cases import program as stored_program
 from loglist_cases import ONE as LOG
 from loglist_cases import ONE_LINE
 from programs import SECONDS, Talk, equal, shown
@@ -32,15 +34,28 @@ class Sample(NamedTuple):
     piece_end: bytes
     nothing: bytes  # the output for an empty input
     most: int  # so many files can be named; 0 where there is no limit
+    takes: int = 0  # so many bytes of input are read at most; 0 where there is no limit
+    endless: bytes = b""  # the output where there are as many
+    words: tuple = ()  # the arguments before the first file
+    usage: str = "[FILE]"
+
+    def unfinished(self):
+        """Two inputs behind which more is read; all output for them is `answer`, where no more can be read."""
+        longer = self.given + self.piece
+        return self.given, self.piece if 0 < self.takes <= len(longer) else longer
 
 
 BENCH = Sample(b"CR000\r", b"E024\r", b"", b"CR0", b"", b"", 1)  # a line that was never written is Bad
+STOPS, NO_PROGRAM = stored_program("B S5 S0"), refused("E030").encode()
 SAMPLES = {
     "bench": BENCH,
     "corners": BENCH,
     "trials": Sample(b"t\0\0\0", b"31 0 0 0 0 0 0 \n", b"", b"t\0", b"", b"", 1),  # a tick before power-on, and sums of zeros
-    "loglist": Sample(LOG, b"", ONE_LINE.encode(), LOG[:5], b"E050\n", b"", 1),
-    "durations": Sample(FIVE, b"5\n", b"5\n", FIVE[:17], b"E030\n5\n", b"0\n", 0),
+    "loglist": Sample(LOG, b"", ONE_LINE.encode(), LOG[:5], b"E050\n", b"", 1, 65537, b"E056\n"),
+    "durations": Sample(FIVE, b"5\n", b"5\n", FIVE[:17], b"E030\n5\n", b"0\n", 0, usage="[FILE...]"),
+    # from line 001: a start at 000 would stop on a Bad line
+    "explain": Sample(STOPS, b"", stopped("011 5 002 -", END).encode(), STOPS[:17], NO_PROGRAM, NO_PROGRAM, 1, 1601, NO_PROGRAM,
+                      ("1", "50"), "[START [LIMIT [FILE]]]"),
 }
 
 
@@ -54,6 +69,7 @@ class Program:
         self.command = [os.path.abspath(command[0]) if "/" in command[0] else command[0], *command[1:]]
         self.seconds = SECONDS if self.by_run else 60
         self.whole = self.sample.answer + self.sample.end
+        self.words = self.sample.words
 
     def lines(self, messages):
         """Messages as this program says them."""
@@ -73,7 +89,7 @@ class Program:
 
     def call(self, arguments, **streams):
         """Standard input is a pipe that stays open, with bytes that must still be there afterwards, unless another is given."""
-        command = [*self.command, *arguments]
+        command = [*self.command, *self.words, *arguments]
         with contextlib.ExitStack() as stack:
             if "stdin" not in streams and "input" not in streams:
                 streams["stdin"] = stack.enter_context(untouched())
@@ -95,11 +111,11 @@ class Program:
     def wrong(self, message, *arguments):
         """The call is wrong: it says that, and how to call it, and nothing else is done."""
         status = 2 if self.independent else 1 if self.by_run else 0
-        usage = f"how to call it: {self.name} {'[FILE]' if self.sample.most else '[FILE...]'}"
+        usage = f"how to call it: {self.name} {self.sample.usage}"
         self.ended(self.call(arguments), status, b"", [message, usage], shortened(arguments))
 
     def talk(self, *arguments, **streams):
-        return Talk([*self.command, *arguments], self.seconds, **streams)
+        return Talk([*self.command, *self.words, *arguments], self.seconds, **streams)
 
 
 def shortened(arguments):
