@@ -15,8 +15,6 @@ enum { REFUSED_START = 60, REFUSED_LIMIT = 61 };
 
 enum { LIMIT_MOST = 100000 };
 
-enum { HEAD_STATE = 0x5300, HEAD_FOR = 0x4601, HEAD_NEXT = 0x4E01 }; /* the first two bytes; of For and Next those of counter 1 */
-
 struct walk {
     const uint8_t *program;
     uint32_t tick;             /* since the start */
@@ -50,25 +48,35 @@ static struct explained stops(const struct walk *walk, uint8_t event, unsigned c
 
 /* ---- lines */
 
-/* The counters are 0-3 here. The outputs of a State are nothing to the run. */
+/* State: 53 00 X4 X3 X2 X1 time. For: 46 counter count and four zeros. Next: 4E counter and six zeros. Outputs are nothing to the run. */
 static struct line read_line(const uint8_t *program, unsigned at)
 {
     const uint8_t *bytes = program + at * LINE_BYTES;
-    const uint64_t word = (uint64_t)four_bytes(bytes) << 32 | four_bytes(bytes + 4);
-    const unsigned head = (unsigned)(word >> 48), middle = word >> 32 & 0xFFFF, last = word & 0xFFFF;
+    const unsigned counter = bytes[1] - 1u, count = two_bytes(bytes + 2), time = two_bytes(bytes + 6);
 
-    if (head == HEAD_STATE && last <= NUMBER_MOST)
-        return (struct line){.kind = LINE_STATE, .number = (uint16_t)last};
-    if (head - HEAD_NEXT < COUNTERS && word << 16 == 0)
-        return (struct line){.kind = LINE_NEXT, .counter = (uint8_t)(head - HEAD_NEXT)};
-    if (head - HEAD_FOR < COUNTERS && middle <= NUMBER_MOST && word << 32 == 0)
-        return (struct line){.kind = LINE_FOR, .counter = (uint8_t)(head - HEAD_FOR), .number = (uint16_t)middle};
+    switch (bytes[0]) {
+    case 'S':
+        if (bytes[1] == 0 && time <= NUMBER_MOST)
+            return (struct line){.kind = LINE_STATE, .number = (uint16_t)time};
+        break;
+    case 'F':
+        if (counter < COUNTERS && count <= NUMBER_MOST && four_bytes(bytes + 4) == 0)
+            return (struct line){.kind = LINE_FOR, .counter = (uint8_t)counter, .number = (uint16_t)count};
+        break;
+    case 'N':
+        if (counter < COUNTERS && count == 0 && four_bytes(bytes + 4) == 0)
+            return (struct line){.kind = LINE_NEXT, .counter = (uint8_t)counter};
+        break;
+    default:
+        break;
+    }
     return (struct line){.kind = LINE_BAD};
 }
 
 /*
  * The first Next of this counter on a later line, or LINES. Its eight bytes are fixed, so they are compared as one number, in whatever
- * order this machine has them; all else is passed, a Bad line too.
+ * order this machine has them; all else is passed, a Bad line too. Four lines a turn: a turn of one takes twice the time where it happens
+ * to lie across two lines of the processor's cache.
  */
 static unsigned next_below(const struct walk *walk, unsigned counter)
 {
@@ -76,10 +84,11 @@ static unsigned next_below(const struct walk *walk, unsigned counter)
     uint64_t next, word;
 
     memcpy(&next, bytes, LINE_BYTES);
-    for (unsigned line = walk->line + 1; line < LINES; line++) {
+#pragma clang loop unroll_count(4)
+    for (size_t line = walk->line + 1; line < LINES; line++) {
         memcpy(&word, walk->program + line * LINE_BYTES, LINE_BYTES);
         if (word == next)
-            return line;
+            return (unsigned)line;
     }
     return LINES;
 }

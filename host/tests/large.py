@@ -2,10 +2,10 @@
 """Zeros into a program, through a pipe and as a file that is named: time and peak memory.
 
     large.py [BYTES] NAME COMMAND...     so many zeros, or 1,000,000,000
-    large.py --constant NAME COMMAND...  32,000,000; status 1 where they take more memory than the first 65,536
+    large.py --constant NAME COMMAND...  32,000,000; status 1 where they take more memory than the first
 
-NAME is bench, corners, trials, loglist or durations, or that with -independent behind it; what it writes is compared with what it must.
-COMMAND is the program, or a script that runs it, or run with the name of the program. The file has no blocks on the disk.
+NAME is bench, corners, trials, loglist, durations or explain, or that with -independent behind it; what it writes is compared with what it
+must. COMMAND is the program, or a script that runs it, or run with the name of the program. The file has no blocks on the disk.
 
 The peak is the VmHWM of Linux, which is the program's own; that of wait4 counts what the caller had before, too. On a pipe it is looked at
 when all zeros are taken and the pipe is still open. On a file it is looked at every millisecond, so that the last one is missed.
@@ -20,9 +20,10 @@ import threading
 import time
 
 from programs import SLACK, constant, peaks, shown
+from shell_program import SAMPLES
 
 FIRST = 65536  # the longest log: loglist waits for one byte more, and then ends
-PROGRAM = 1600  # bytes of one, for durations: of zeros it has no end
+PROGRAM = 1600  # bytes of one: for durations one of zeros has no end, and explain waits for one byte more, and then ends
 SECONDS = 600
 FILE_SLACK = SLACK + 1024  # kB that another run may take more; the zeros are some 31,000
 
@@ -32,7 +33,12 @@ def text_of(name, count):
     plain = name.removesuffix("-independent")
     if plain == "durations":
         return b"E042\n" * (count // PROGRAM) + (b"E030\n" if count % PROGRAM else b"") + b"0\n"
-    return b"E056\n" if plain == "loglist" else b""
+    return SAMPLES[plain].endless
+
+
+def first_of(name):
+    """The zeros after which the peak is looked at first: as many as every program takes and does not end."""
+    return PROGRAM if name.startswith("explain") else FIRST
 
 
 class Run:
@@ -87,15 +93,15 @@ def through_a_pipe(name, command, count):
     reader, writer = os.pipe()
     run = Run(command, reader)
     os.close(reader)
-    zeros(FIRST, writer)
+    zeros(first_of(name), writer)
     taken(writer, run)
     first = run.peaks()
-    whole = zeros(count - FIRST, writer)
+    whole = zeros(count - first_of(name), writer)
     taken(writer, run)
     last = run.peaks()
     os.close(writer)
     seconds = run.end(text_of(name, count))
-    if whole == name.startswith("loglist"):  # one byte more than a log has is enough for it
+    if whole == name.startswith(("loglist", "explain")):  # one byte more than a log has, or a stored program, is enough for these
         raise AssertionError("all was read" if whole else "not all was read")
     return seconds, first, last or first
 
@@ -105,7 +111,7 @@ def as_a_file(name, command, count):
     highest = {}
     with tempfile.NamedTemporaryFile() as file:
         file.truncate(count)
-        run = Run([*command, file.name], subprocess.DEVNULL)
+        run = Run([*command, *SAMPLES[name.removesuffix("-independent")].before, file.name], subprocess.DEVNULL)
         while run.process.poll() is None:
             for which, most in run.peaks().items():
                 highest[which] = max(most, highest.get(which, 0))

@@ -4,20 +4,21 @@
     shell.py --list [NAME]        names the cases, or those of the program NAME
     shell.py CASE NAME COMMAND... one of them, on the program NAME that is run by these words
 
-NAME is bench, corners, trials, loglist or durations, or that with -independent behind it: its messages and its status go by it. COMMAND is
-the program, or a script that runs it, or run with the name of the program. Status 0 if the case passes.
+NAME is bench, corners, trials, loglist, durations or explain, or that with -independent behind it: its messages and its status go by it.
+COMMAND is the program, or a script that runs it, or run with the name of the program. Status 0 if the case passes.
 """
 import sys
 
-from shell_cases import ALL, LOGLIST, ONE_FILE, SEVERAL_FILES
+from shell_cases import ALL, ENDLESS, ONE_FILE, SEVERAL_FILES
+from shell_numbers import NUMBERS
 from shell_program import SAMPLES, Program
 
-CASES = {case.__name__: case for case in ALL + LOGLIST + ONE_FILE + SEVERAL_FILES}
+CASES = {case.__name__: case for case in ALL + ENDLESS + NUMBERS + ONE_FILE + SEVERAL_FILES}
 
 
 def cases_of(name):
-    plain = name.removesuffix("-independent")
-    return ALL + (LOGLIST if plain == "loglist" else []) + (ONE_FILE if SAMPLES[plain].most else SEVERAL_FILES)
+    sample = SAMPLES[name.removesuffix("-independent")]
+    return ALL + (ENDLESS if sample.endless else []) + (NUMBERS if sample.before else []) + (ONE_FILE if sample.most else SEVERAL_FILES)
 
 
 def is_program(name):

@@ -270,8 +270,8 @@ def output_fails(program):
 
 
 def endless_file(program):
-    """For loglist: no more is read than one byte more than a log has."""
-    program.writes(b"E056\n", "/dev/zero")
+    """For loglist and explain: no more is read than one byte more than a log or a stored program has."""
+    program.writes(program.sample.endless, "/dev/zero")
 
 
 # ---- several files, for durations
@@ -352,6 +352,6 @@ def fifo_behind_file(program):
 
 ALL = [named_file, closed_input, dash, missing_file, folder_as_file, unreadable_file, odd_names, empty_name, long_name, unknown_option,
        options, long_argument, fifo, terminal, broken_off, connection_reset, output_fails]
-LOGLIST = [endless_file]
+ENDLESS = [endless_file]
 ONE_FILE = [too_many]
 SEVERAL_FILES = [several_files, empty_files, dash_among, failure_among, many_files, opened_in_turn, fifo_behind_file]

@@ -23,15 +23,23 @@ from programs import SECONDS, Talk, equal, shown
 FOLDER, MISSING = "Is a directory", "No such file or directory"
 
 
+# of explain: the answer to a stored program, and to one of which bytes are missing
+FIVE_STOPS = b"011 5 001 -\nStopped after 0.5 s on line 001 (S00010203040000): the program came to its end mark. Nothing has to be done.\n"
+NO_PROGRAM = b"E030\nThis is no stored program: it has fewer or more than 1600 bytes. Give a file of 200 lines of 8 bytes.\n"
+
+
 class Sample(NamedTuple):
     """A small input. All output for it is `answer` and `end`; with `piece` behind the input, `answer` and `piece_end`."""
     given: bytes
     answer: bytes  # written before more input comes, and kept where none can be read
     end: bytes  # written where the input ends
-    piece: bytes  # the beginning of another input like this one, cut short
+    piece: bytes  # the beginning of another input like this one, cut short; of explain, which has one alone, the rest of it
     piece_end: bytes
     nothing: bytes  # the output for an empty input
     most: int  # so many files can be named; 0 where there is no limit
+    usage: str = "[FILE]"
+    before: tuple = ()  # arguments that stand before a file
+    endless: bytes = b""  # the output for an input without an end, where the program does not read for ever
 
 
 BENCH = Sample(b"CR000\r", b"E024\r", b"", b"CR0", b"", b"", 1)  # a line that was never written is Bad
@@ -39,8 +47,10 @@ SAMPLES = {
     "bench": BENCH,
     "corners": BENCH,
     "trials": Sample(b"t\0\0\0", b"31 0 0 0 0 0 0 \n", b"", b"t\0", b"", b"", 1),  # a tick before power-on, and sums of zeros
-    "loglist": Sample(LOG, b"", ONE_LINE.encode(), LOG[:5], b"E050\n", b"", 1),
-    "durations": Sample(FIVE, b"5\n", b"5\n", FIVE[:17], b"E030\n5\n", b"0\n", 0),
+    "loglist": Sample(LOG, b"", ONE_LINE.encode(), LOG[:5], b"E050\n", b"", 1, endless=b"E056\n"),
+    "durations": Sample(FIVE, b"5\n", b"5\n", FIVE[:17], b"E030\n5\n", b"0\n", 0, "[FILE...]"),
+    "explain": Sample(FIVE[:1592], b"", NO_PROGRAM, FIVE[1592:], FIVE_STOPS, NO_PROGRAM, 1, "[START [LIMIT [FILE]]]", ("0", "100000"),
+                      NO_PROGRAM),
 }
 
 
@@ -49,6 +59,7 @@ class Program:
         self.name = name
         self.independent = name.endswith("-independent")
         self.sample = SAMPLES[name.removesuffix("-independent")]
+        self.before = self.sample.before
         self.by_run = os.path.basename(command[0]) == "run"
         # the cases call it from folders of their own
         self.command = [os.path.abspath(command[0]) if "/" in command[0] else command[0], *command[1:]]
@@ -71,9 +82,13 @@ class Program:
         same(done.stdout, text, f"{what}: output")
         same(got, want, f"{what}: messages")
 
+    def words(self, arguments):
+        """The command and its arguments: files, and what stands before them."""
+        return [*self.command, *(self.before if arguments else ()), *arguments]
+
     def call(self, arguments, **streams):
         """Standard input is a pipe that stays open, with bytes that must still be there afterwards, unless another is given."""
-        command = [*self.command, *arguments]
+        command = self.words(arguments)
         with contextlib.ExitStack() as stack:
             if "stdin" not in streams and "input" not in streams:
                 streams["stdin"] = stack.enter_context(untouched())
@@ -95,11 +110,11 @@ class Program:
     def wrong(self, message, *arguments):
         """The call is wrong: it says that, and how to call it, and nothing else is done."""
         status = 2 if self.independent else 1 if self.by_run else 0
-        usage = f"how to call it: {self.name} {'[FILE]' if self.sample.most else '[FILE...]'}"
+        usage = f"how to call it: {self.name} {self.sample.usage}"
         self.ended(self.call(arguments), status, b"", [message, usage], shortened(arguments))
 
     def talk(self, *arguments, **streams):
-        return Talk([*self.command, *arguments], self.seconds, **streams)
+        return Talk(self.words(arguments), self.seconds, **streams)
 
 
 def shortened(arguments):
