@@ -2,6 +2,7 @@
  * it, but drives the library by its calls until each field must have a value of its own by document 01, and looks for it at the
  * header's place. Where 01 and the header say nothing of a field (a stopped program's wait, a free counter's line, characters
  * behind the length), it is only seen that power-on sets it. The tick count's end (033) is out of reach here. */
+#include "layout.h"
 #include "layout_numbers.h"
 #include "nizhalepu.h"
 
@@ -21,9 +22,9 @@ static struct {
 
 static uint8_t program[NIZHALEPU_PROGRAM], saved[NIZHALEPU_PROGRAM], log_area[LOG], reply[NIZHALEPU_REPLY], destination[LOG];
 static unsigned checks, failures;
-static const char *moment; /* what has just been done, for a message */
+const char *moment;
 
-static void check(const char *what, uint64_t got, uint64_t want) {
+void check(const char *what, uint64_t got, uint64_t want) {
     checks++;
     if (got == want)
         return;
@@ -352,24 +353,6 @@ static void test_said_and_ticks(void) {
     check_record("a refused power-on");
 }
 
-static void check_duration(const char *name, size_t length, unsigned refusal, uint64_t ticks) {
-    struct nizhalepu_duration duration = nizhalepu_duration(program, length);
-    moment = name;
-    check("refusal", duration.refusal, refusal);
-    check("ticks", duration.ticks, ticks);
-}
-
-/* More ticks than 32 bits hold, so that all bytes of the number but the highest, which are 0 in any, are seen. */
-static void test_duration(void) {
-    static const uint8_t loops[] = {0x46, 1, 0x27, 0x0F, 0, 0, 0, 0, 0x46, 2, 0, 100, 0, 0, 0, 0, 0x53, 0, 1, 2, 3, 4, 0x27, 0x0F,
-                                    0x4E, 2, 0,    0,    0, 0, 0, 0, 0x4E, 1, 0, 0,   0, 0, 0, 0, 0x53, 0, 0, 0, 0, 0, 0,    0};
-    memset(program, 0, sizeof program);
-    check_duration("the duration of a program of zeros", sizeof program, NIZHALEPU_NO_END, 0);
-    memcpy(program, loops, sizeof loops);
-    check_duration("the duration of two loops", sizeof program, NIZHALEPU_ACCEPTED, 9998000100);
-    check_duration("the duration of a program that is too short", sizeof program - 1, NIZHALEPU_BAD_PROGRAM, 0);
-}
-
 int main(void) {
     memset(box.before, GUARD_BYTE, sizeof box.before);
     memset(box.after, GUARD_BYTE, sizeof box.after);
@@ -379,7 +362,7 @@ int main(void) {
     test_wire();
     test_log();
     test_said_and_ticks();
-    test_duration();
+    test_reports();
     printf("layout: %u checks, %u failed\n", checks, failures);
     return failures == 0 ? EXIT_SUCCESS : EXIT_FAILURE;
 }

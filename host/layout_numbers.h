@@ -38,5 +38,9 @@ _Static_assert(offsetof(struct nizhalepu_said, refusal) == 0 && offsetof(struct 
 _Static_assert(offsetof(struct nizhalepu_said, written) == 8, "what a call says");
 _Static_assert(sizeof(struct nizhalepu_duration) == 16 && sizeof(((struct nizhalepu_duration *)0)->ticks) == 8, "a duration");
 _Static_assert(offsetof(struct nizhalepu_duration, refusal) == 0 && offsetof(struct nizhalepu_duration, ticks) == 8, "a duration");
+_Static_assert(sizeof(struct nizhalepu_stop) == 8 && sizeof(((struct nizhalepu_stop *)0)->tick) == 4, "a stop");
+_Static_assert(offsetof(struct nizhalepu_stop, tick) == 0 && offsetof(struct nizhalepu_stop, refusal) == 4, "a stop");
+_Static_assert(offsetof(struct nizhalepu_stop, event) == 5 && offsetof(struct nizhalepu_stop, line) == 6, "a stop");
+_Static_assert(offsetof(struct nizhalepu_stop, cause) == 7, "a stop");
 
 #endif

@@ -3,8 +3,8 @@
  * Link with target/staticlib/libnizhalepu.a (x86-64), which `rt staticlib nizhalepu` proves and makes; all
  * that it may need of a C library is memcpy. The rules are those of document 01 and of document 02, items 1 (the
  * log as text), 2 (a loop of none), 3 (why a special command was not taken), 4 (a bad stored line), 5 (less
- * stack), 6 (how long a program takes), 7 (the first increment) and 8 (what a gap tells); the Rattle source of
- * these calls, with their contracts, is crates/nizhalepu/src/lib.rt.
+ * stack), 6 (how long a program takes), 7 (the first increment), 8 (what a gap tells) and 9 (why a program
+ * stops); the Rattle source of these calls, with their contracts, is crates/nizhalepu/src/lib.rt.
  *
  * Who owns what. The caller owns the record and every area. The library keeps no pointer, allocates
  * nothing, has no data of its own but constants and calls nothing back; each call ends.
@@ -15,7 +15,7 @@
  *   ask nothing more of the record.
  * - Lend areas that do not overlap each other or the record, with at least as many bytes behind each
  *   pointer as its length says. A pointer is not null, even with length 0. A length may be wrong: the
- *   five calls and nizhalepu_duration refuse that, and nizhalepu_list then writes nothing.
+ *   five calls, nizhalepu_duration and nizhalepu_explain refuse that, and nizhalepu_list then writes nothing.
  * - Alter neither the program area nor the log between calls. Every call still does what document 01
  *   says if it happens, but what the box then runs and tells is what the areas hold.
  * - Make one call at a time on one record.
@@ -232,6 +232,41 @@ struct nizhalepu_duration {
 };
 
 struct nizhalepu_duration nizhalepu_duration(const uint8_t *program, size_t program_length);
+
+/* ---- why a program stops. It needs no record; the program may be any bytes, of any number, and is only read; start
+ * line and limit may be any numbers of 64 bits.
+ *
+ * The program is run from the start line on, all loops free, where nobody stops or pauses it; the outputs at the start
+ * make no difference. The start is tick 0. The answer is the event that stops it at the limit's own tick or before,
+ * its tick, the line that 211 then shows, and the cause; or that it is still running after so many ticks. It is
+ * reckoned without the end of the tick count (NIZHALEPU_LAST_TICK). The time that it takes goes by the lines that are
+ * run, and not by the ticks for which a State is held: at most 400 For and Next lines a tick. */
+
+enum {
+    /* NIZHALEPU_BAD_PROGRAM, 30, is the first */
+    NIZHALEPU_BAD_START = 60, /* the start line is above 199 */
+    NIZHALEPU_BAD_LIMIT = 61  /* the limit is above NIZHALEPU_LIMIT_MOST */
+};
+
+enum {
+    NIZHALEPU_LIMIT_MOST = 100000, /* ticks */
+    NIZHALEPU_NO_CAUSE = 255
+};
+
+struct nizhalepu_stop {
+    uint32_t tick;      /* from the start, which is tick 0; 0 where it is refused or still running */
+    uint8_t refusal;    /* 0 where the question is answered */
+    uint8_t event;      /* 0 where it is refused or still running */
+    uint8_t line;       /* where the program stopped; 0 where it is refused or still running */
+    uint8_t cause;      /* by the event:
+                         *   6   the line of the For that holds the counter, which this run has run
+                         *   7   the counter, of which no later line is a Next
+                         *   8   1 if a For of the counter stands on a line above, run or not, else 0
+                         *   13  the State line that was held when the tick came; none in the start itself
+                         * none, NIZHALEPU_NO_CAUSE, with every other event and where there is none */
+};
+
+struct nizhalepu_stop nizhalepu_explain(const uint8_t *program, size_t program_length, uint64_t start, uint64_t limit);
 
 #ifdef __cplusplus
 }

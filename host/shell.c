@@ -13,7 +13,7 @@
 
 enum { BLOCK = 4096, SHOWN = 4096 }; /* bytes of output that are gathered, and the most that a message shows of an argument */
 
-static const char *self;
+static const char *self, *usage; /* the program's name, and its arguments */
 
 static char *no_file[] = {"-"}; /* a call without a FILE reads what one with `-` reads */
 static char **files = no_file;
@@ -35,10 +35,10 @@ static _Noreturn void fail(const char *verb, const char *quote, const char *name
     exit(EXIT_FAILURE);
 }
 
-static _Noreturn void fail_on_call(const char *message, const char *argument, const char *arguments)
+static _Noreturn void fail_on_call(const char *message, const char *argument)
 {
     fprintf(stderr, "%s: %s '%.*s'\n", self, message, SHOWN, argument);
-    fprintf(stderr, "%s: how to call it: %s %s\n", self, self, arguments);
+    fprintf(stderr, "%s: how to call it: %s %s\n", self, self, usage);
     exit(2);
 }
 
@@ -145,17 +145,34 @@ size_t shell_read_piece(void *to, size_t count)
 void shell_start(const char *name, const char *arguments, int most, int argc, char **argv)
 {
     self = name;
+    usage = arguments;
     for (int i = 1; i < argc; i++) {
         if (argv[i][0] == '-' && argv[i][1] != '\0')
-            fail_on_call("there is no option", argv[i], arguments);
+            fail_on_call("there is no option", argv[i]);
         if (i > most)
-            fail_on_call("one argument too many:", argv[i], arguments);
+            fail_on_call("one argument too many:", argv[i]);
     }
     if (argc > 1) {
         files = argv + 1;
         file_count = argc - 1;
     }
     signal(SIGPIPE, SIG_IGN); /* a closed output is told by the write that fails */
+}
+
+void shell_numbers(uint64_t *numbers, int count)
+{
+    if (files == no_file)
+        return;
+    for (; count > 0 && file_count > 0; count--) {
+        if (!shell_number(*files, numbers++))
+            fail_on_call("no number:", *files);
+        files++;
+        file_count--;
+    }
+    if (file_count == 0) {
+        files = no_file;
+        file_count = 1;
+    }
 }
 
 bool shell_number(const char *word, uint64_t *number)

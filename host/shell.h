@@ -14,9 +14,15 @@ enum { SHELL_ANY_NUMBER = INT32_MAX }; /* of files; a call cannot have as many *
 
 /*
  * Comes first. Looks at the arguments from left to right, before anything is read or written: each is a FILE, no option is known, and
- * there are at most `most` FILEs. The first that is wrong is told with how to call the program, which is its name and `arguments`.
+ * there are at most `most` of them. The first that is wrong is told with how to call the program, which is its name and `arguments`.
  */
 void shell_start(const char *name, const char *arguments, int most, int argc, char **argv);
+
+/*
+ * Comes behind shell_start, which counts these too, where the first `count` arguments are numbers and no FILEs. They are looked at from
+ * left to right, and the first that is no number is told likewise. A number that is not given stays what it was.
+ */
+void shell_numbers(uint64_t *numbers, int count);
 
 /*
  * Goes on to the next input: the FILEs in their order, each opened when its turn comes, `-` for standard input, which is also the only

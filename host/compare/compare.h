@@ -12,5 +12,7 @@ int compare_limits(void);
 /* `path` names a file that gets every program of 1,600 bytes and what the proved library says of it, or is NULL. */
 int compare_durations(uint64_t programs, uint64_t seed, const char *path);
 int compare_ticking(uint64_t programs, uint64_t seed);
+/* `path` names a file that gets every question and what the proved library says to it, or is NULL. */
+int compare_explain(uint64_t programs, uint64_t seed, const char *path);
 
 #endif

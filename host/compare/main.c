@@ -29,6 +29,13 @@ static const char usage[] =
     "compare durations --ticking [N] [--seed S]\n"
     "                                random programs of few ticks (N ten thousand if not given): the proved box runs each\n"
     "                                that is not refused, and must come to event 011 at the tick that the library tells\n"
+    "compare explain [--programs N] [--seed S] [--keep FILE]\n"
+    "                                random programs, start lines and limits: why each program stops, by the proved library\n"
+    "                                and by the independent reading (N a hundred thousand if not given), and as both boxes\n"
+    "                                show it where it takes few ticks; a difference prints the program. FILE gets for every\n"
+    "                                one its length (two bytes, here and below high byte first), its bytes, start line and\n"
+    "                                limit (eight bytes each), and the proved answer: refusal, event (a byte each), tick\n"
+    "                                (four bytes), line, cause (a byte each), for python3 model/explain.py --check FILE\n"
     "compare --help                  this text\n"
     "Exit status: 0 equal, 1 a difference, a class of calls, logs or programs never or seldom met or a stack over its limit,\n"
     "2 bad usage or no FILE.\n";
@@ -75,6 +82,24 @@ static int calls(int count, char **words)
     return calls == 0 ? bad_usage() : compare_calls(calls, seed, logs);
 }
 
+/* The words behind `explain`. */
+static int explain(int count, char **words)
+{
+    const char *path = NULL;
+    uint64_t programs = USUAL_PROGRAMS, seed = seed_of_clock();
+    for (int i = 2; i < count; i += 2) {
+        uint64_t *value = NULL;
+        if (i + 1 == count) return bad_usage();
+        if (strcmp(words[i], "--programs") == 0) value = &programs;
+        if (strcmp(words[i], "--seed") == 0) value = &seed;
+        if (strcmp(words[i], "--keep") == 0)
+            path = words[i + 1];
+        else if (value == NULL || !number(words[i + 1], value))
+            return bad_usage();
+    }
+    return programs == 0 ? bad_usage() : compare_explain(programs, seed, path);
+}
+
 /* The words behind `durations`. The number behind --ticking may be missing. */
 static int durations(int count, char **words)
 {
@@ -111,5 +136,6 @@ int main(int count, char **words)
     if (count == 2 && strcmp(words[1], "stack") == 0) return compare_stack();
     if (count == 2 && strcmp(words[1], "limits") == 0) return compare_limits();
     if (count > 1 && strcmp(words[1], "durations") == 0) return durations(count, words);
+    if (count > 1 && strcmp(words[1], "explain") == 0) return explain(count, words);
     return calls(count, words);
 }
