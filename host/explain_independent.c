@@ -73,7 +73,11 @@ static void put_reason(const struct explained *stop, unsigned counter)
 {
     switch (stop->event) {
     case BUSY:
-        put("counter %u was still in use by the For on line %03u. Give the inner loop another counter.\n", counter, stop->cause);
+        put("counter %u was still in use by the For on line %03u. ", counter, stop->cause);
+        if (stop->cause < stop->line)
+            put("Give the inner loop another counter.\n");
+        else /* a jump back came to it before that loop was over */
+            put("Two loops cross: end the inner one before the outer one.\n");
         break;
     case NO_NEXT:
         put("no Next of counter %u stands on a later line. Write N%u on the line where the loop ends.\n", stop->cause, stop->cause);

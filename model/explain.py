@@ -24,7 +24,7 @@ import box
 PROGRAM, LAST_LINE, LIMIT_MOST, LINES_IN_A_CALL = 1600, 199, 100_000, 400
 NUMBER_MOST = 2 ** 64 - 1
 NO_CAUSE = 255
-LONGEST_STORED, NUMBERS, ANSWER = 1700, ">QQ", ">BBIBB"
+NUMBERS, ANSWER = ">QQ", ">BBIBB"
 
 line_of = lru_cache(100_000)(box.decode)
 
@@ -208,7 +208,8 @@ STILL = "Still running after %s s: nothing stops it up to the limit. A limit can
 INTO_THE_LOOP = "Put a State with a time above 0 into the loop."
 # By what class_of gives: {c} is the counter of the line, {k} the line that is the cause.
 REASONS = {
-    "006": "counter {c} was still in use by the For on line {k}. Give the inner loop another counter.",
+    "006 above": "counter {c} was still in use by the For on line {k}. Give the inner loop another counter.",
+    "006": "counter {c} was still in use by the For on line {k}. Two loops cross: end the inner one before the outer one.",
     "007": "no Next of counter {c} stands on a later line. Write N{c} on the line where the loop ends.",
     "008 yes": "counter {c} was not in use, although a For of it stands above. Start at that For or above it, or take this Next out.",
     "008 no": "no For of counter {c} stands above. Write one there, or take this Next out.",
@@ -253,6 +254,8 @@ def shown(outcome, line, limit):
         return name, STILL % seconds(limit)
     # The line as a read of it over the wire answers. 02, item 4: "reading a Bad line over the wire answers E024"
     read = f"E{box.BAD_LINE:03d}" if line == box.BAD else box.show(line)
+    if outcome.event == 6 and outcome.cause < outcome.line:
+        name = "006 above"  # a loop in a loop; else a jump back came to a For whose own loop, or one behind it, is not over
     reason = REASONS[name].format(c=line[1] if line[0] in ("F", "N") else None, k=cause_field(outcome))
     return (f"{outcome.event:03d} {outcome.tick} {outcome.line:03d} {cause_field(outcome)}",
             f"Stopped after {seconds(outcome.tick)} s on line {outcome.line:03d} ({read}): {reason}")
@@ -278,7 +281,7 @@ def records(path):
             length = int.from_bytes(head, "big")
             rest = length + struct.calcsize(NUMBERS) + struct.calcsize(ANSWER)
             record = file.read(rest)
-            if len(head) != 2 or length > LONGEST_STORED or len(record) != rest:
+            if len(head) != 2 or len(record) != rest:
                 sys.exit(f"explain.py: {path} ends within a record, or has one that is none")
             yield (record[:length], *struct.unpack_from(NUMBERS, record, length), struct.unpack(ANSWER, record[-struct.calcsize(ANSWER):]))
 

@@ -24,6 +24,7 @@ def program(words):
 
 REASONS = {
     "006": "counter {counter} was still in use by the For on line {cause}. Give the inner loop another counter.",
+    "006 crossing": "counter {counter} was still in use by the For on line {cause}. Two loops cross: end the inner one before the outer one.",
     "007": "no Next of counter {cause} stands on a later line. Write N{cause} on the line where the loop ends.",
     "008 yes": "counter {counter} was not in use, although a For of it stands above. Start at that For or above it, or take this Next out.",
     "008 no": "no For of counter {counter} stands above. Write one there, or take this Next out.",
@@ -48,7 +49,8 @@ def seconds(ticks):
 def stopped(first, read):
     """The two lines of a stop by their first one and what a read of the line answers."""
     event, tick, number, cause = first.split()
-    reason = REASONS.get(f"{event} {cause}") or REASONS[event]
+    kind = "006 crossing" if event == "006" and cause >= number else f"{event} {cause}"
+    reason = REASONS.get(kind) or REASONS[event]
     return f"{first}\nStopped after {seconds(tick)} s on line {number} ({read}): {reason.format(counter=read[1], cause=cause)}\n"
 
 

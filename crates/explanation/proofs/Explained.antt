@@ -21,7 +21,7 @@ use Rattle.explanation.specs.declared.Cause.the-variants.{ForLine, ForAb
 use Rattle.explanation.specs.declared.Stop.{Stop}
 use Rattle.explanation.specs.Report.{did, stopTick, heldAt, firstDue, causeOf, stopOf, stopAt, Outcome, stillRunning, hasStopped, outcome, report}
 use Rattle.explanation.specs.Facts.{Fact, inUse, noNext, forAbove, noFor, stateHeld, inTheStart, other, StopsSo, StillRuns}
-use Rattle.explanation.proofs.Ticks.{did-runs}
+use Rattle.explanation.proofs.Ticks.{did-kept, did-runs}
 use Rattle.explanation.proofs.Searched.{runs-before, off-there, stops-there, still-there, outcome-stops, outcome-runs, stopped-found, running-found}
 use Rattle.explanation.proofs.Above.{isForOf, some-above, above-some}
 use Rattle.explanation.proofs.ByEvent as ByEvent
@@ -112,6 +112,12 @@ module _ (p : List ℕ) (k limit : ℕ) where
   pub runs-as-told : report p k limit ≡ passed stillRunning → (o : ℕ) → StillRuns p k o limit
   runs-as-told is o n le =
       did-runs p k o n (running-found p k o limit (same-outcome p k o 0 limit ∙ told-outcome p k limit stillRunning is) n le)
+
+  -- The line that is told is one of the program.
+  pub told-in-program : (s : Stop) → report p k limit ≡ passed (hasStopped s) → (length p ≡ 1600) × (s .line < 200)
+  told-in-program s is =
+      let fit = told-fit p k limit (hasStopped s) is in
+      (fit .program, subst (λ j. j < 200) (stops-as-told s is 0 .there) (did-kept p k 0 (fit .line) (s .tick) .lineInProgram))
 
   -- And the other way round: of a stored program, a start line and a limit that are not refused, what is so is told.
   module _ (program : length p ≡ 1600) (line : k ≤ 199) (few : limit ≤ 100000) (o : ℕ) where

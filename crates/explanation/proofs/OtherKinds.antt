@@ -9,7 +9,7 @@ use denote.Enum.Declared.{tagOf}
 use Rattle.lines.proofs.Line as L
 use Rattle.lines.specs.declared.Line.{Line}
 use Rattle.lines.specs.declared.Line.the-variants.{State, For, Next, Bad}
-use Rattle.lines.specs.Line.{forCounter, OneToFour, Ranges}
+use Rattle.lines.specs.Line.{OneToFour, Ranges}
 use Rattle.running.proofs.How as H
 use Rattle.running.specs.declared.Run.{Run}
 use Rattle.running.specs.declared.How.the-variants.{Ends, GoesOn}
@@ -20,12 +20,6 @@ use Rattle.explanation.specs.declared.Cause.the-variants.{Nothing}
 use Rattle.explanation.specs.Report.{holderIn, soughtBy, aboveBy}
 
 -- a line that is no For
-pub no-counter : (l : Line) → OneOf (0 ∷ 2 ∷ 3 ∷ []) (tagOf L.the-type l) → 0 ≡ forCounter l
-no-counter (State o t) h = refl
-no-counter (For c x) h = absurd (miss (0 ∷ 2 ∷ 3 ∷ []) 1 tt h)
-no-counter (Next c) h = refl
-no-counter Bad h = refl
-
 pub no-sought : (l : Line) → OneOf (0 ∷ 2 ∷ 3 ∷ []) (tagOf L.the-type l) → Nothing ≡ soughtBy l
 no-sought (State o t) h = refl
 no-sought (For c x) h = absurd (miss (0 ∷ 2 ∷ 3 ∷ []) 1 tt h)

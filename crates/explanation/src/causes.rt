@@ -4,7 +4,7 @@ ghost use mathlib.Core.List.{[]};
 ghost use Prim.Native.Nat.{_<_};
 ghost use lib.Dec.{eqb};
 ghost use Rattle.lines.specs.Program.{IsProgram, lineAt};
-ghost use Rattle.lines.specs.Line.{forCounter, Ranges};
+ghost use Rattle.lines.specs.Line.{Ranges};
 ghost use Rattle.lines.specs.Loops.{counterAt};
 ghost use Rattle.lines.specs.Searches.{someBefore};
 ghost use Rattle.running.specs.Moments.{lastDue};
@@ -16,16 +16,6 @@ use lines::Line;
 use running::Ran;
 use running::Run;
 
-// The counter of a For, 0 of any other line.
-fn for_counter(l: Line) -> u8
-    ensures counter { λ r. ⌜ r ≡ forCounter l ⌝ }
-{
-    let Line::For { counter, count: _ } = l else {
-        return 0;
-    };
-    counter
-}
-
 // Whether some For of counter c stands on a line above line k, run or not, whatever its count.
 fn is_for_above(p: &[u8], c: u8, k: u8) -> bool
     requires { ⌜ IsProgram (now p) × (k < 200) ⌝ }
@@ -34,7 +24,7 @@ fn is_for_above(p: &[u8], c: u8, k: u8) -> bool
     let mut j: u8 = 0;
     while j < k {
         let l = lines::line_at(p, j as usize);
-        if for_counter(l) == c {
+        if lines::for_counter(l) == c {
             return true;
         }
         j += 1;

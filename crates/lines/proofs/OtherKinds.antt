@@ -9,7 +9,7 @@ use denote.Enum.Declared.{tagOf}
 use Rattle.lines.proofs.Line as L
 use Rattle.lines.specs.declared.Line.{Line}
 use Rattle.lines.specs.declared.Line.the-variants.{State, For, Next, Bad}
-use Rattle.lines.specs.Line.{isEnd, isBad}
+use Rattle.lines.specs.Line.{isEnd, isBad, forCounter}
 use Rattle.lines.specs.Program.{isNextOf}
 
 -- a line that is no Next
@@ -32,3 +32,10 @@ no-end (State o t) h = absurd (miss (1 ∷ 2 ∷ 3 ∷ []) 0 tt h)
 no-end (For c x) h = refl
 no-end (Next c) h = refl
 no-end Bad h = refl
+
+-- a line that is no For
+pub no-counter : (l : Line) → OneOf (0 ∷ 2 ∷ 3 ∷ []) (tagOf L.the-type l) → 0 ≡ forCounter l
+no-counter (State o t) h = refl
+no-counter (For c x) h = absurd (miss (0 ∷ 2 ∷ 3 ∷ []) 1 tt h)
+no-counter (Next c) h = refl
+no-counter Bad h = refl

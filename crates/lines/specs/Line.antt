@@ -72,6 +72,13 @@ forCounter (For counter count) = counter
 forCounter (Next counter) = 0
 forCounter Bad = 0
 
+-- the counter that a For or a Next names, 0 of any other line
+abbrev pub counterOf : Line → ℕ
+counterOf (State outputs time) = 0
+counterOf (For counter count) = counter
+counterOf (Next counter) = counter
+counterOf Bad = 0
+
 -- ---- what it does, and its bytes
 
 -- the outputs after a line that is executed, where o stood before: a State sets its own, any other leaves them

@@ -7,7 +7,7 @@ ghost use lib.ListN.{length};
 ghost use lib.Dec.{eqb, leb};
 ghost use Rattle.formats.specs.Checks.{if_then_else_};
 ghost use Rattle.lines.specs.declared.Line.the-variants.{State, For, Next, Bad};
-ghost use Rattle.lines.specs.Line.{endMark, isCounter, isEnd, isBad, readLine, bytesOf};
+ghost use Rattle.lines.specs.Line.{endMark, isCounter, isEnd, isBad, forCounter, counterOf, readLine, bytesOf};
 ghost use Rattle.lines.specs.Program.{IsProgram, lineAt, putLine, isNextOf, nextAfter};
 ghost use Rattle.lines.specs.Loops.{endLine};
 
@@ -136,6 +136,31 @@ fn is_end(l: Line) -> bool
         return false;
     };
     time == 0
+}
+
+// The counter of a For, 0 of any other line.
+pub fn for_counter(l: Line) -> u8
+    ensures counter { λ r. ⌜ r ≡ forCounter l ⌝ }
+{
+    let Line::For { counter, count: _ } = l else {
+        return 0;
+    };
+    counter
+}
+
+// The counter of a For or a Next, 0 of any other line.
+pub fn counter_of(l: Line) -> u8
+    ensures counter { λ r. ⌜ r ≡ counterOf l ⌝ }
+{
+    match l {
+        Line::State {
+            outputs: _,
+            time: _,
+        } => 0,
+        Line::For { counter, count: _ } => counter,
+        Line::Next { counter } => counter,
+        Line::Bad => 0,
+    }
 }
 
 // ---- a line written as eight bytes

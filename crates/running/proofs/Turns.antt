@@ -12,7 +12,7 @@ use types.Run.{OneOf, miss}
 use denote.Enum.Declared.{tagOf}
 use Rattle.lines.specs.declared.Line.{Line}
 use Rattle.lines.specs.declared.Line.the-variants.{State, For, Next, Bad}
-use Rattle.lines.specs.Line.{OneToFour}
+use Rattle.lines.specs.Line.{OneToFour, counterOf}
 use Rattle.lines.specs.Program.{lineAt}
 use Rattle.lines.proofs.Line as L
 use Rattle.lines.proofs.Lines.{Ranged}
@@ -24,7 +24,7 @@ use Rattle.running.specs.declared.How.the-variants.{Holds, Ends, GoesOn}
 use Rattle.running.specs.declared.Step.{Step}
 use Rattle.running.specs.declared.Turn.{Turn}
 use Rattle.running.specs.Running.{free, counter, ends, onward, tick, runLine, isForOrNext, stops, rests, follow, step, runDue}
-use Rattle.running.specs.Turn.{counterOf, turned, Leads}
+use Rattle.running.specs.Turn.{turned, Leads}
 use Rattle.running.specs.Moments.{lastDue}
 use Rattle.running.specs.Due.{freed}
 use Rattle.running.proofs.How as H

@@ -4,19 +4,12 @@ use Prim.Native.Nat.{ℕ}
 use mathlib.Core.Path.{_≡_}
 use mathlib.Core.List.{List}
 use Rattle.lines.specs.declared.Line.{Line}
-use Rattle.lines.specs.declared.Line.the-variants.{State, For, Next, Bad}
+use Rattle.lines.specs.Line.{counterOf}
 use Rattle.running.specs.declared.Counter.{Counter}
 use Rattle.running.specs.declared.Run.{Run}
 use Rattle.running.specs.declared.Step.{Step}
 use Rattle.running.specs.declared.Turn.{Turn}
 use Rattle.running.specs.Running.{counter, atLine, withCounter, runLine}
-
--- the counter that a line names, and 0 for one that names none
-abbrev pub counterOf : Line → ℕ
-counterOf (State outputs time) = 0
-counterOf (For c count) = c
-counterOf (Next c) = c
-counterOf Bad = 0
 
 -- a turn of counter c, put back into its run
 abbrev pub turned : ℕ → Turn → Run → Step

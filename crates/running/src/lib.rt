@@ -225,7 +225,7 @@ impl Run {
         while n < 400 {
             let k = run.line;
             let line = lines::line_at(p, k as usize);
-            let counter = loops::counter_of(line);
+            let counter = lines::counter_of(line);
             if counter == 0 {
                 break;
             }

@@ -8,26 +8,11 @@ ghost use Rattle.lines.specs.Program.{IsProgram};
 ghost use Rattle.lines.specs.declared.Line.the-variants.{For, Next};
 ghost use Rattle.running.specs.declared.Run.{Run};
 ghost use Rattle.running.specs.Running.{atLine, withCounter, onward, isForOrNext};
-ghost use Rattle.running.specs.Turn.{counterOf, turned, Leads};
+ghost use Rattle.running.specs.Turn.{turned, Leads};
 use crate::Counter;
 use crate::How;
 use crate::Turn;
 use lines::Line;
-
-// The counter of a For or a Next; 0 for a State and a Bad line, which name none: with these a call ends.
-pub fn counter_of(line: Line) -> u8
-    ensures number { λ r. ⌜ r ≡ counterOf line ⌝ }
-{
-    match line {
-        Line::State {
-            outputs: _,
-            time: _,
-        } => 0,
-        Line::For { counter, count: _ } => counter,
-        Line::Next { counter } => counter,
-        Line::Bad => 0,
-    }
-}
 
 // To the line after k; past line 199 the program ends with event 009.
 fn past(held: Counter, k: u8) -> Turn

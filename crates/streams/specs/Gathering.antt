@@ -31,3 +31,9 @@ pub record Puts (o : Output) (block bytes : List ℕ) (r : Output) (block′ : L
 -- what reading leaves of an output: as it was, or nothing waits any more, since it has gone out; no output that failed is open again
 abbrev pub Passes : Output → Output → Type 0
 Passes o r = ((r ≡ o) ⊎ (r .used ≡ 0)) × (r .open ≡ true → o .open ≡ true)
+
+-- what several puts do, one behind the other: their bytes follow what waits, if there is room in the block for all of them
+pub record Follows (o : Output) (block bytes : List ℕ) (r : Output) (block′ : List ℕ) : Type 0 where
+  pub size : length block′ ≡ length block
+  pub waits : length (gathered o block) + length bytes ≤ length block → gathered r block′ ≡ gathered o block ++ bytes
+  pub stays : length (gathered o block) + length bytes ≤ length block → r .open ≡ o .open

@@ -1,9 +1,9 @@
--- `explanation::causes::for_counter` meets its contract: a line that is no For has none.
+-- `lines::for_counter` meets its contract: a line that is no For has none.
 -- Assumes nothing.
 use borrow.Author.Needs.{needs}
-use Rattle.explanation.proofs.OtherKinds.{no-counter}
-use Rattle.explanation.proofs.causes.for_counter.Statement.{statement}
-use Rattle.explanation.proofs.causes.for_counter.Tie as tie
+use Rattle.lines.proofs.OtherKinds.{no-counter}
+use Rattle.lines.proofs.for_counter.Statement.{statement}
+use Rattle.lines.proofs.for_counter.Tie as tie
 
 enum-known-l : tie.Need-enum-known-l
 enum-known-l c = search needs
