@@ -6,11 +6,13 @@ ghost use Prim.Native.Nat.{_≤_, _<_};
 ghost use Rattle.formats.specs.Checks.{passed};
 ghost use Rattle.lines.specs.Program.{IsProgram};
 ghost use Rattle.running.specs.Invariant.{RunInvariant};
+ghost use Rattle.running.specs.Known.{Tabled};
 ghost use Rattle.explanation.specs.Report.{outcome, report, answerOf, causeNumber};
 ghost use Rattle.explanation.specs.NextDue.{NextDue};
 use running::How;
 use running::Ran;
 use running::Run;
+use running::known;
 
 mod causes;
 
@@ -47,15 +49,15 @@ pub enum Answer {
 pub const MOST_TICKS: u64 = 100000;
 
 // The tick on which the line behind a held State falls due. The loops are not freed yet, where it ends the program.
-fn next_due(held: Run, p: &[u8]) -> Ran
-    requires { ⌜ IsProgram (now p) × (held .on ≡ true) × (held .wait ≤ 1) × (RunInvariant held) ⌝ }
+fn next_due(held: Run, p: &[u8], counters: &[u8], nexts: &[u8], counts: &[u16]) -> Ran
+    requires { ⌜ IsProgram (now p) × (held .on ≡ true) × (held .wait ≤ 1) × (RunInvariant held) × (Tabled (now p) (now counters) (now nexts) (now counts)) ⌝ }
     ensures due { λ r. ⌜ NextDue (now (p .entry)) held r ⌝ }
 {
     let s = held.onward();
     let run = s.run;
     let how = s.how;
     let How::Ends(event) = how else {
-        return run.due(p);
+        return known::due(run, p, counters, nexts, counts);
     };
     Ran {
         run,
@@ -70,9 +72,13 @@ fn followed(p: &[u8], k: u8, limit: u32) -> Answer
     requires { ⌜ IsProgram (now p) × (k < 200) × (limit ≤ 100000) ⌝ }
     ensures answer { λ r. ⌜ r ≡ answerOf (passed (outcome (now (p .entry)) k 0 limit)) ⌝ }
 {
+    let table = known::known_of(p);
+    let counters = table.counters;
+    let nexts = table.nexts;
+    let counts = table.counts;
     // the run before the last call: that with which the start begins, or that which held a State line before the tick
     let mut held = Run::begun(k, 0);
-    let mut ran = held.due(p);
+    let mut ran = known::due(held, p, &counters, &nexts, &counts);
     let mut tick: u32 = 0;
     loop {
         if ran.event != 0 {
@@ -86,7 +92,7 @@ fn followed(p: &[u8], k: u8, limit: u32) -> Answer
         tick += wait;
         run.wait = 1;
         held = run;
-        ran = next_due(held, p);
+        ran = next_due(held, p, &counters, &nexts, &counts);
     }
 }
 

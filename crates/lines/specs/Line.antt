@@ -79,6 +79,13 @@ counterOf (For counter count) = counter
 counterOf (Next counter) = counter
 counterOf Bad = 0
 
+-- the count of a For, 0 of any other line
+abbrev pub countOf : Line → ℕ
+countOf (State outputs time) = 0
+countOf (For counter count) = count
+countOf (Next counter) = 0
+countOf Bad = 0
+
 -- ---- what it does, and its bytes
 
 -- the outputs after a line that is executed, where o stood before: a State sets its own, any other leaves them

@@ -7,6 +7,7 @@ pub mod Causes
 pub mod LastDue
 pub mod Freeing
 pub mod Turns
+pub mod Knowing
 pub mod Ending
 pub mod Outputs
 pub mod Reaching

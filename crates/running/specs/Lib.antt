@@ -6,3 +6,4 @@ pub mod Ticking
 pub mod Gone
 pub mod Moments
 pub mod Due
+pub mod Known

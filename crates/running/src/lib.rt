@@ -9,9 +9,9 @@ ghost use Rattle.lines.specs.declared.Line.the-variants.{State};
 ghost use Rattle.running.specs.Running.{free, allFree, freshRun, begun, withOutputs, stopped, onward, runLine};
 ghost use Rattle.running.specs.Running.{stops, runDue, start, tick};
 ghost use Rattle.running.specs.Invariant.{RunInvariant};
-ghost use Rattle.running.specs.Due.{Due};
 use lines::Line;
 
+pub mod known;
 mod loops;
 
 // A loop counter: 0 when free, and the line of the For that holds it.
@@ -214,11 +214,10 @@ impl Run {
         }
     }
 
-    // Lines are run until one is held or ends the program, at most 400 of them For or Next. Where the program has ended, its loops may not be
-    // freed yet.
-    pub fn due(self, p: &[u8]) -> Ran
+    // Lines are run until one is held or ends the program, at most 400 of them For or Next.
+    fn run_due(self, p: &[u8]) -> Ran
         requires { ⌜ IsProgram (now p) × (self .on ≡ true) × (RunInvariant self) ⌝ }
-        ensures due { λ r. ⌜ Due (now (p .entry)) self r ⌝ }
+        ensures ran { λ r. ⌜ r ≡ runDue (now (p .entry)) 400 0 self ⌝ }
     {
         let mut run = self;
         let mut n: u16 = 0;
@@ -238,28 +237,10 @@ impl Run {
             run.line = t.line;
             let how = t.how;
             if let How::Ends(event) = how {
-                return Ran {
-                    run,
-                    event,
-                    lines: n,
-                };
+                return run.ended(event, n);
             }
         }
         run.last_due(p, n)
-    }
-
-    // The same, and the loops are freed.
-    fn run_due(self, p: &[u8]) -> Ran
-        requires { ⌜ IsProgram (now p) × (self .on ≡ true) × (RunInvariant self) ⌝ }
-        ensures ran { λ r. ⌜ r ≡ runDue (now (p .entry)) 400 0 self ⌝ }
-    {
-        let r = self.due(p);
-        let event = r.event;
-        if event == 0 {
-            return r;
-        }
-        let run = r.run;
-        run.ended(event, r.lines)
     }
 
     // One tick taken unpaused: a State line is held on, or the program goes on to the line after it.
