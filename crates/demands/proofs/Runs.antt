@@ -3,3 +3,4 @@ pub mod LinesRun
 pub mod Undisturbed
 pub mod ByTheRules
 pub mod Ends
+pub mod Stops

@@ -77,6 +77,14 @@ pub record Answers (gone : List Made) (k : ℕ) (r : List ℕ) : Type 0 where
   pub read : ReadOf (gone ++ later) k lent
   pub is : reply (seen (gone ++ later) (ending lent)) ≡ ended r
 
+-- After the calls `gone`, with which a program ended, and any others that touch nothing of it, a read of 212 is answered with event e and one of 211 with
+-- line k.
+pub record ShowsStop (gone : List Made) (e k : ℕ) : Type 0 where
+  pub event : (later : List Made) → Untouched (told gone) (notes (after unpowered gone) later) → (lent : Areas) → ReadOf (gone ++ later) 212 lent
+      → reply (seen (gone ++ later) (ending lent)) ≡ ended (d e)
+  pub line : (later : List Made) → Untouched (told gone) (notes (after unpowered gone) later) → (lent : Areas) → ReadOf (gone ++ later) 211 lent
+      → reply (seen (gone ++ later) (ending lent)) ≡ ended (d k)
+
 -- 02, item 4: "A bad stored line must not look like an end." Where 212 is answered with 011, an end mark stands at the line with which 211 is
 -- answered, and the outputs are its; where 212 is answered with 014, a Bad line stands there.
 pub record ShowsEnd (program : List ℕ) (gone : List Made) : Type 0 where

@@ -9,7 +9,8 @@ use mathlib.Core.Option.{none}
 use lib.Dec.{eqb, leb}
 use borrow.Author.Tests.{ne-eqb, le-leb}
 use Rattle.formats.specs.Checks.{if_then_else_, passed, text}
-use Rattle.formats.specs.Digits.{digits, shown, d}
+use Rattle.formats.specs.Digits as Digits
+use Rattle.formats.specs.Digits.{digits, d}
 use Rattle.formats.proofs.Checks.{if-case, neither, both-false}
 use Rattle.lines.specs.declared.Line.the-variants.{State, Bad}
 use Rattle.lines.specs.Program.{lineAt}
@@ -36,7 +37,7 @@ use Rattle.demands.specs.Told.{Told, withByte, said, starts, ran, afterw
 use Rattle.demands.specs.Shown.{shownOf}
 use Rattle.demands.specs.Replies.{ended}
 use Rattle.demands.specs.Undisturbed.{isTouched, Untouched}
-use Rattle.demands.specs.Started.{Course, begun, now, Started, programOf, startOf, count, ruled, Ticks, ticked, Answers, ShowsEnd}
+use Rattle.demands.specs.Started.{Course, begun, now, Started, programOf, startOf, count, ruled, Ticks, ticked, Answers, ShowsStop, ShowsEnd}
 use Rattle.demands.proofs.Calls.Formats.{shown-same}
 use Rattle.demands.proofs.Calls.Answered.{invariant-always}
 use Rattle.demands.proofs.History.Telling.{told-more, held-as-told}
@@ -126,17 +127,27 @@ module _ (gone : List Made) (off : told gone .run .on ≡ false) where
       let x = all-kept (notes (after unpowered gone) later) (told gone) u off in
       (ap (λ (t : Told). t .run) (told-more gone later) ∙ x .0, ap (λ (t : Told). t .event) (told-more gone later) ∙ x .1)
 
-  event-read : {r : List ℕ} → Answers gone 212 r → ended (d (told gone .event)) ≡ ended r
+  -- 212 is answered with the event, and 211 with the line
+  pub shows-stop : (e k : ℕ) → told gone .event ≡ e → told gone .run .line ≡ k → ShowsStop gone e k
   unfolding shownOf
-  event-read x =
-      ap (λ e. ended (d e)) (sym (kept (x .later) (x .untouched) .1))
-      ∙ sym (reads-as-told (gone ++ x .later) (x .lent) 212 (omega arith) (x .read) .0 λ le. absurd (omega arith)) ∙ x .is
+  shows-stop e k event line =
+      record {
+        event = λ later u lent read.
+            reads-as-told (gone ++ later) lent 212 (omega arith) read .0 (λ le. absurd (omega arith))
+            ∙ ap (λ x. ended (d x)) (kept later u .1 ∙ event);
+        line = λ later u lent read.
+            reads-as-told (gone ++ later) lent 211 (omega arith) read .0 (λ le. absurd (omega arith))
+            ∙ ap (λ x. ended (d x)) (ap (λ (q : Run). q .line) (kept later u .0) ∙ line);
+      }
+
+  shown : ShowsStop gone (told gone .event) (told gone .run .line)
+  shown = shows-stop _ _ refl refl
+
+  event-read : {r : List ℕ} → Answers gone 212 r → ended (d (told gone .event)) ≡ ended r
+  event-read x = sym (shown .event (x .later) (x .untouched) (x .lent) (x .read)) ∙ x .is
 
   line-read : {r : List ℕ} → Answers gone 211 r → ended (d (told gone .run .line)) ≡ ended r
-  unfolding shownOf
-  line-read x =
-      ap (λ (q : Run). ended (d (q .line))) (sym (kept (x .later) (x .untouched) .0))
-      ∙ sym (reads-as-told (gone ++ x .later) (x .lent) 211 (omega arith) (x .read) .0 λ le. absurd (omega arith)) ∙ x .is
+  line-read x = sym (shown .line (x .later) (x .untouched) (x .lent) (x .read)) ∙ x .is
 
   in-program : told gone .run .line < 200
   in-program = subst (λ (r : Run). r .line < 200) (held-as-told gone .run) (invariant-always gone .run .lineInProgram)
@@ -145,7 +156,7 @@ module _ (gone : List Made) (off : told gone .run .on ≡ false) where
   at-line k le x = let lt = in-program in shown-same (told gone .run .line) k (omega arith) (omega arith) (line-read x)
 
   shows-end : (program : List ℕ) → Ended program (told gone .event) (told gone .run) → ShowsEnd program gone
-  unfolding text shown digits
+  unfolding text Digits.shown digits
   shows-end program end =
       let known = end .known in
       record {
@@ -163,6 +174,11 @@ told-end : (p : List ℕ) (x : Ran) (before : ℕ) → Ending.Told x → Ended p
 told-end p x before (Ending.goesOn on _) so f g off = absurd (true≢false (sym on ∙ sym (ap (λ (r : Run). r .on) f) ∙ off))
 told-end p x before (Ending.hasEnded _ ne) so {r} f g off =
     subst (λ e. Ended p e r) (sym (g ∙ rw (ne-eqb (x .event) 0 ne))) (subst (Ended p (x .event)) (sym f) so)
+
+-- the event of a start or a tick that ended the program
+ended-event : (x : Ran) (before : ℕ) → x .run .on ≡ false → Ending.Told x → (if eqb (x .event) 0 then before else x .event) ≡ x .event
+ended-event x before off (Ending.goesOn on _) = absurd (true≢false (sym on ∙ off))
+ended-event x before off (Ending.hasEnded _ ne) = rw (ne-eqb (x .event) 0 ne)
 
 module _ (c : Course) (so : Started c) where
   -- 02, item 4: a Bad line does not look like an end: where that tick ends the program,
@@ -207,34 +223,58 @@ module _ (c : Course) (so : Started c) where
         s .2 ∙ ap (λ (y : Ran). y .lines) r,
       )
 
+  -- A program that by the rules ends at tick n with event e: as long as fewer than n ticks were taken unpaused it runs, whatever the traffic and the
+  -- pauses,
+  module _ (n e : ℕ) (lasts : EndsAfter (programOf c) n e (startOf c)) where
+    on-until : count c < n → ruled c .on ≡ true
+    on-until lt = ap (λ (r : Run). r .on) (sym (after-ticks (programOf c) (count c) (startOf c))) ∙ lasts .before (count c) lt .on
+
+    pub runs-so-long : count c < n → told (now c) .run .on ≡ true
+    runs-so-long lt = ap (λ (r : Run). r .on) (runs-by-the-rules c so (on-until lt) .0) ∙ on-until lt
+
+    -- with the n-th it ends, with that event and on the line of the rules,
+    pub ends-there : count c + 1 ≡ n → (a : Areas) → Ticks c a
+        → let gone = told (ticked c a) in (gone .event ≡ e) × (gone .run .on ≡ false) × (gone .run .line ≡ Ticking.after (programOf c) n (startOf c) .run .line)
+    ends-there last a t =
+        let x = startOf c in
+        let on = on-until (omega arith) in
+        let by = ends-by-the-rules c so on a t in
+        let next-is : tick (programOf c) (ruled c)
+        ≡ Ticking.after (programOf c) n x =
+        tick-after (programOf c) (count c) x ∙ ap (λ j. Ticking.after (programOf c) j x) last in
+        let off = ap (λ (r : Ran). r .run .on) next-is ∙ lasts .off in (
+          by .1
+              ∙ ended-event (tick (programOf c) (ruled c)) (told (now c) .event) off (tick-told (programOf c) (ruled c) on)
+              ∙ ap (λ (r : Ran). r .event) next-is ∙ lasts .event,
+          ap (λ (r : Run). r .on) (by .0) ∙ off,
+          ap (λ (r : Run). r .line) (by .0) ∙ ap (λ (r : Ran). r .run .line) next-is,
+        )
+
+    -- and where there are none to take, at the start.
+    pub ends-in-start : n ≡ 0 → let gone = told (begun c) in (gone .event ≡ e) × (gone .run .on ≡ false) × (gone .run .line ≡ startOf c .run .line)
+    unfolding Ticking.after
+    ends-in-start no-ticks =
+        let x = startOf c in
+        let end : EndsAfter (programOf c) 0 e x = rw no-ticks at lasts in
+        let by = starts-by-the-rules c so in (
+          by .1 ∙ ended-event x (told (c .before) .event) (end .off) (start-told (programOf c) (c .line) (outputs (c .before))) ∙ end .event,
+          ap (λ (r : Run). r .on) (by .0) ∙ end .off,
+          ap (λ (r : Run). r .line) (by .0),
+        )
+
   -- 02, item 6: how long it takes. For a program that the report gives n ticks, started at line 000: as long as fewer than n ticks were taken
-  -- unpaused it runs, whatever the traffic and the pauses,
+  -- unpaused it runs,
   module _ (first : c .line ≡ 0) (n : ℕ) (is : report (programOf c) ≡ passed n) where
     lasts : EndsAfter (programOf c) n 11 (startOf c)
     lasts = rw first (takes (programOf c) n is (outputs (c .before)))
 
-    on-until : count c < n → ruled c .on ≡ true
-    on-until lt = ap (λ (r : Run). r .on) (sym (after-ticks (programOf c) (count c) (startOf c))) ∙ lasts .before (count c) lt .on
-
     pub runs-as-long : count c < n → told (now c) .run .on ≡ true
-    runs-as-long lt = ap (λ (r : Run). r .on) (runs-by-the-rules c so (on-until lt) .0) ∙ on-until lt
+    runs-as-long = runs-so-long n 11 lasts
 
     -- with the n-th it ends, with event 011,
     pub ends-on-time : count c + 1 ≡ n → (a : Areas) → Ticks c a → let gone = told (ticked c a) in (gone .event ≡ 11) × (gone .run .on ≡ false)
-    ends-on-time last a t =
-        let x = startOf c in
-        let by = ends-by-the-rules c so (on-until (omega arith)) a t in
-        let next-is : tick (programOf c) (ruled c)
-        ≡ Ticking.after (programOf c) n x =
-        tick-after (programOf c) (count c) x ∙ ap (λ j. Ticking.after (programOf c) j x) last in (
-          by .1 ∙ ap (λ (r : Ran). if eqb (r .event) 0 then told (now c) .event else r .event) next-is ∙ rw (lasts .event),
-          ap (λ (r : Run). r .on) (by .0) ∙ ap (λ (r : Ran). r .run .on) next-is ∙ lasts .off,
-        )
+    ends-on-time last a t = let end = ends-there n 11 lasts last a t in (end .0, end .1)
 
     -- and where there are none to take, at the start.
     pub ends-at-once : n ≡ 0 → (told (begun c) .event ≡ 11) × (told (begun c) .run .on ≡ false)
-    unfolding Ticking.after
-    ends-at-once no-ticks =
-        let x = startOf c in
-        let end : EndsAfter (programOf c) 0 11 x = rw no-ticks at lasts in
-        (starts-by-the-rules c so .1 ∙ rw (end .event), ap (λ (r : Run). r .on) (starts-by-the-rules c so .0) ∙ end .off)
+    ends-at-once no-ticks = let end = ends-in-start n 11 lasts no-ticks in (end .0, end .1)
