@@ -11,6 +11,7 @@ use Rattle.formats.specs.Digits.{errorText, d}
 use Rattle.lines.specs.Line.{isBad}
 use Rattle.lines.specs.Program.{lineAt}
 use Rattle.duration.specs.Report.{report}
+use Rattle.explanation.specs.Report.{report as stopReport}
 use Rattle.reader.specs.declared.Record.{Record}
 use Rattle.reader.specs.Reading.{reading}
 use Rattle.reader.specs.Words.{isOutsideGap}
@@ -23,7 +24,7 @@ use Rattle.demands.specs.Undisturbed.{isBroken, isPausing, isTouched}
 use Rattle.demands.specs.FirstSteps.{hasRead, hasWritten}
 use Rattle.demands.specs.Changes.{noneBegins}
 use Rattle.demands.specs.Walks.{Act, own, Ask, asking, madeOf, Trail, isAsSaid}
-use Rattle.demands.specs.Premises.{never, handsOn, counted, arrives, names, isGiven, isSome, goes, _behind_, oneMore}
+use Rattle.demands.specs.Premises.{never, handsOn, counted, arrives, names, isGiven, isStop, isStill, isSome, goes, _behind_, oneMore}
 use Rattle.demands.specs.Premises.{seenAt, end, powersAt, noteAt, notesIn, lendsMoment, ruledAt}
 use Rattle.demands.specs.Replies.{ended}
 
@@ -117,10 +118,10 @@ runs x =
 
 -- which of the theorems on the end of a program applies too
 pub data Ends : Type 0 where
-  -- the tick ends it: by the report, started at 000; on a Bad line
+  -- the tick ends it: by the report of ticks, started at 000; on a Bad line, by the report of a stop too, with that tick as its limit
   onTime : Ends
   onBad : Ends
-  -- it does not end there
+  -- it does not end there, and by the report of a stop it still runs
   goesOn : Ends
 
 unfoldable pub endsSo : Ends → Runs → List Bool
@@ -130,8 +131,12 @@ endsSo onTime x =
 endsSo onBad x =
     let b = goes (x .begins .before) in
     let r = ruledAt b (x .begins .line) (x .count) in
-    leb (r .wait) 1 ∷ ltb (r .line) 199 ∷ isBad (lineAt (b .last .held .program) (r .line + 1)) ∷ []
-endsSo goesOn x = []
+    leb (r .wait) 1
+    ∷ ltb (r .line) 199
+    ∷ isBad (lineAt (b .last .held .program) (r .line + 1))
+    ∷ isStop (stopReport (b .last .held .program) (x .begins .line) (x .count + 1)) 14 (x .count + 1) (r .line + 1)
+    ∷ []
+endsSo goesOn x = isStill (stopReport (goes (x .begins .before) .last .held .program) (x .begins .line) (x .count)) ∷ []
 
 -- a start that ends the program at once: by the report, or on a Bad line; what is read then is in `found`
 pub record AtOnce : Type 0 where

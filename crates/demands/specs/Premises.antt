@@ -6,6 +6,7 @@ use mathlib.Core.List.{List, [], _∷_, _++_, map}
 use mathlib.Core.Option.{Option, none, some}
 use lib.Dec.{eqb}
 use Rattle.formats.specs.Checks.{Res, refused, passed, text, same, all}
+use Rattle.explanation.specs.Report.{Outcome, stillRunning, hasStopped}
 use Rattle.formats.specs.Digits.{shown}
 use Rattle.running.specs.declared.Run.{Run}
 use Rattle.running.specs.Running.{ticks}
@@ -58,6 +59,18 @@ names next k a = same a (shown 10 3 k) || ((same a (text "I") && eqb k next) || 
 abbrev pub isGiven : Res ℕ → ℕ → Bool
 isGiven (refused e) n = false
 isGiven (passed m) n = eqb m n
+
+-- the report of a stop tells this event, tick and line
+abbrev pub isStop : Res Outcome → ℕ → ℕ → ℕ → Bool
+isStop (refused r) e n k = false
+isStop (passed stillRunning) e n k = false
+isStop (passed (hasStopped s)) e n k = eqb (s .event) e && eqb (s .tick) n && eqb (s .line) k
+
+-- or that the program still runs
+abbrev pub isStill : Res Outcome → Bool
+isStill (refused r) = false
+isStill (passed stillRunning) = true
+isStill (passed (hasStopped s)) = false
 
 abbrev pub isSome : Option ℕ → ℕ → Bool
 isSome none n = false

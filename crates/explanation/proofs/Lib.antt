@@ -9,3 +9,4 @@ pub mod Stopping
 pub mod Whatever
 pub mod Refusing
 pub mod Explained
+pub mod Examples

@@ -22,6 +22,9 @@ use Rattle.controller.specs.Refusals as Refusals
 use Rattle.controller.specs.Effects as Effects
 use Rattle.controller.specs.Calls as Calls
 use Rattle.duration.specs.Report as Report
+use Rattle.explanation.specs.Report as StopReport
+use Rattle.running.specs.Ticking as Ticking
+use Rattle.running.specs.Moments as Moments
 use Rattle.lines.specs.Searches as Searches
 use Rattle.lines.specs.Loops as LineLoops
 use Rattle.duration.specs.Loops as Loops
@@ -50,6 +53,7 @@ unfolding failing scripts Applying.failingOf Premises.counted Applying.readsBack
     Checks._>>=_ Checks._>>_ Checks._orElse_ Checks.text Digits.digits Digits.numberAfter Digits.shown Digits.numberIn Digits.hIn Digits.dIn
     Digits.errorText Bytes.placed Line.readLine Line.bytesOf Program.lineAt Program.firstNext Program.nextAfter Text.lineText Text.counterIn Text.stateIn
     Text.forIn Text.nextIn Text.lineIn Running.stopped Running.onward Running.runLine Running.step Running.runDue Running.start Running.tick Running.ticks
+    StopReport.report StopReport.stopTick StopReport.firstDue StopReport.causeOf StopReport.stopOf StopReport.outcome Ticking.after Moments.lastDue
     Report.report Report.reportTo Searches.firstOf Searches.someBefore LineLoops.endLine LineLoops.nextOf LineLoops.counterAt Loops.isInside Loops.crosses
     Loops.startsInOwn Loops.lacksNext Loops.lacksFor Loops.isTangled Loops.endsInside Ticks.past Ticks.summed Ticks.runTicks Ticks.idlesAt Ticks.idles
     Ticks.hasBad Reading.ownWords Reading.isChangeRecord Reading.isGap Reading.joins Reading.canHold Reading.mayFollow Reading.isPossible Reading.mayStand

@@ -17,13 +17,14 @@ use Rattle.running.specs.declared.Run.{Run}
 use Rattle.running.specs.Running.{ticks, tick}
 use Rattle.running.specs.Running as Running
 use Rattle.duration.specs.Report.{report}
+use Rattle.explanation.specs.Report.{hasStopped, report as stopReport}
 use Rattle.controller.specs.Controller.{Areas}
 use Rattle.controller.specs.Refusals.{tick as tickCall}
 use Rattle.demands.specs.Histories.{Made, ticking, Held, unpowered, after, HandsOn, AllHandOn}
 use Rattle.demands.specs.Seen.{isTaken, seen, outputs, Note, note, notes}
 use Rattle.demands.specs.Told.{Told, said, starts, tell, tellAll, told, Never}
 use Rattle.demands.specs.ReadBack.{ReadOf}
-use Rattle.demands.specs.Started.{Course, Started, programOf, startOf, count, ruled, Ticks}
+use Rattle.demands.specs.Started.{Course, Started, programOf, startOf, count, ruled, Ticks, ticked, ShowsStop}
 use Rattle.demands.specs.Undisturbed.{Unbroken, isBroken, isPausing}
 use Rattle.demands.specs.Walks.{Ask, asking, asksOf, setOut, madeOf, noteBy, Trail, trail}
 use Rattle.demands.specs.Premises.{copy, goes, _behind_, oneMore, end, handsOn, never, ruledAt, isGiven}
@@ -43,12 +44,15 @@ use Rattle.demands.proofs.Applies.Walked.{
   one-reached,
   read-named,
   given-so,
+  stop-so,
+  still-so,
   some-so,
   AllTrue,
   nth,
   holds-at,
 }
 use Rattle.demands.proofs.Runs.ByTheRules.{runs-by-the-rules, outputs-by-the-rules, ends-by-the-rules, pauses-only}
+use Rattle.demands.proofs.Runs.Stops.{runs-until-then, stops-as-explained, runs-as-explained}
 use Rattle.demands.proofs.Runs.Ends.{bad-start, bad-tick, runs-as-long, ends-on-time, ends-at-once}
 
 -- ---- the start
@@ -138,11 +142,11 @@ module _ (x : Runs) where
       × (told (now ++ (ticking t ∷ [])) .run ≡ tick (after unpowered p .program) ruledNow .run)
       × ReadOf now (x .j) (madeOf end (l .last) .areas)
 
-  -- what `runs-as-long` and `ends-on-time` say, and `bad-tick`
+  -- what `runs-as-long` and `ends-on-time` say, `bad-tick` with `runs-until-then` and `stops-as-explained`, and `runs-as-explained`
   abbrev pub EndsSo : Ends → Type 0
   EndsSo onTime = let gone = told (now ++ (ticking t ∷ [])) in (told now .run .on ≡ true) × (gone .event ≡ 11) × (gone .run .on ≡ false)
-  EndsSo onBad = told (now ++ (ticking t ∷ [])) .event ≡ 14
-  EndsSo goesOn = Unit {0}
+  EndsSo onBad = let gone = now ++ (ticking t ∷ []) in (told gone .event ≡ 14) × (told now .run .on ≡ true) × ShowsStop gone 14 (ruledNow .line + 1)
+  EndsSo goesOn = told now .run .on ≡ true
 
   module _ (ok : AllTrue (runs x)) where
     at : (i : ℕ) → nth i (runs x) ≡ true
@@ -225,9 +229,18 @@ module _ (x : Runs) where
         let ends = ends-on-time c so first (x .count + 1) is (ap (λ n. n + 1) count-is) t next in
         (runs-as-long c so first (x .count + 1) is (omega (arith, count-is)), ends .0, ends .1)
     ends-apply onBad e =
-        bad-tick c so on t next (rw tested (leb-true _ _ (e .0))) (rw tested (ltb-true _ _ (e .1 .0)))
-        (ap₂ (λ (h : Held) (r : Run). lineAt (h .program) (r .line + 1)) (at-start s .held) tested ∙ is-bad _ (e .1 .1 .0)) .0
-    ends-apply goesOn e = tt
+        stop-so _ 14 (x .count + 1) (ruledNow .line + 1) (e .1 .1 .1 .0) λ stop is event at-tick line.
+        let told-so : stopReport (programOf c) (s .line) (x .count + 1) ≡ passed (hasStopped stop) =
+        ap (λ (h : Held). stopReport (h .program) (s .line) (x .count + 1)) (at-start s .held) ∙ is in
+        let shows = stops-as-explained c so (x .count + 1) stop told-so (ap (λ n. n + 1) count-is ∙ sym at-tick) t next .1 in (
+          bad-tick c so on t next (rw tested (leb-true _ _ (e .0))) (rw tested (ltb-true _ _ (e .1 .0)))
+              (ap₂ (λ (h : Held) (r : Run). lineAt (h .program) (r .line + 1)) (at-start s .held) tested ∙ is-bad _ (e .1 .1 .0)) .0,
+          runs-until-then c so (x .count + 1) stop told-so (omega (arith, count-is)),
+          subst (λ v. ShowsStop (ticked c t) v (ruledNow .line + 1)) event (subst (ShowsStop (ticked c t) (stop .event)) line shows),
+        )
+    ends-apply goesOn e =
+        runs-as-explained c so (x .count)
+        (ap (λ (h : Held). stopReport (h .program) (s .line) (x .count)) (at-start s .held) ∙ still-so _ (e .0)) (omega (arith, count-is))
 
 -- ---- a start that ends the program at once
 

@@ -9,6 +9,8 @@ use mathlib.Core.Option.{Option, none, some}
 use lib.Dec.{eqb}
 use borrow.Author.Tests.{eqb-true, not-true}
 use Rattle.formats.specs.Checks.{Res, refused, passed, text, same, all}
+use Rattle.explanation.specs.declared.Stop.{Stop}
+use Rattle.explanation.specs.Report.{Outcome, stillRunning, hasStopped}
 use Rattle.formats.specs.Digits.{shown}
 use Rattle.formats.proofs.Checks.{both-true, either-true, same-equal}
 use Rattle.wire.specs.Naming.{Names, byDigits, byI, byD}
@@ -22,7 +24,7 @@ use Rattle.demands.specs.Undisturbed.{counts, unpaused}
 use Rattle.demands.specs.Changes.{begins, noneBegins}
 use Rattle.demands.specs.LentBytes.{lendBytes}
 use Rattle.demands.specs.Walks.{Lending, own, sized, anew, Ask, Walk, setOut, madeOf, nextBy, noteBy, Moment, wentOn, moment, trail, madeIn}
-use Rattle.demands.specs.Premises.{never, handsLent, handsOn, counted, arrives, names, isGiven, isSome, notesIn, lendsMoment}
+use Rattle.demands.specs.Premises.{never, handsLent, handsOn, counted, arrives, names, isGiven, isStop, isStill, isSome, notesIn, lendsMoment}
 use Rattle.demands.specs.Applying.{failingOf, failing, Script, testsOf}
 use Rattle.demands.proofs.History.Telling.{after-more, told-more}
 
@@ -208,6 +210,21 @@ read-named r k a e = subst (λ (t : Told). Names (t .nextRead) k a) (sym (r .tol
 
 pub write-named : {cs : List Made} {w : Walk} → Reached cs w → (k : ℕ) (a : List ℕ) → names (w .told .nextWrite) k a ≡ true → Names (told cs .nextWrite) k a
 write-named r k a e = subst (λ (t : Told). Names (t .nextWrite) k a) (sym (r .told)) (names-so _ k a e)
+
+-- what a stop that is told has for its parts
+pub stop-so : {X : Type 0} (r : Res Outcome) (e n k : ℕ) → isStop r e n k ≡ true
+    → ((s : Stop) → r ≡ passed (hasStopped s) → s .event ≡ e → s .tick ≡ n → s .line ≡ k → X) → X
+stop-so (refused x) e n k p so = absurd (true≢false (sym p))
+stop-so (passed stillRunning) e n k p so = absurd (true≢false (sym p))
+stop-so (passed (hasStopped s)) e n k p so =
+    let a = both-true _ _ p in
+    let b = both-true _ _ (a .0) in
+    so s refl (eqb-true _ _ (b .0)) (eqb-true _ _ (b .1)) (eqb-true _ _ (a .1))
+
+pub still-so : (r : Res Outcome) → isStill r ≡ true → r ≡ passed stillRunning
+still-so (refused x) p = absurd (true≢false (sym p))
+still-so (passed stillRunning) p = refl
+still-so (passed (hasStopped s)) p = absurd (true≢false (sym p))
 
 pub given-so : (r : Res ℕ) (n : ℕ) → isGiven r n ≡ true → r ≡ passed n
 given-so (refused e) n p = absurd (true≢false (sym p))
