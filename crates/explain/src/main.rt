@@ -30,6 +30,6 @@ fn main() {
     }
     let n = p.count;
     let mut block = [0u8; 512];
-    let output = telling::told(Output::new(), &mut block, &program[..n], start, limit);
+    let output = telling::told_whole(&mut block, &program[..n], start, limit);
     output.flushed(&block);
 }

@@ -1,8 +1,10 @@
 // The two lines that are told of a program, gathered for output. Definitions: specs/Telling.antt.
 ghost use mathlib.Core.List.{_++_};
 ghost use Prim.Native.Nat.{_≤_};
+ghost use mathlib.Core.Path.{_≡_};
+ghost use lib.ListN.{length};
 ghost use Rattle.formats.specs.Digits.{shown};
-ghost use Rattle.streams.specs.Gathering.{Follows};
+ghost use Rattle.streams.specs.Gathering.{gathered, Follows};
 ghost use Rattle.explanation.specs.Report.{report, answerOf};
 ghost use Rattle.explanation.specs.declared.Cause.the-variants.{ForLine, Sought, StateLine};
 ghost use Rattle.explain.specs.Telling.{readText, causeField, fields, firstLine, seconds, busyAdvice, aboveReason, plainReason, reason, stopSentence};
@@ -294,7 +296,7 @@ fn put_sentence(output: Output, block: &mut [u8], p: &[u8], limit: u64, answer: 
 }
 
 // What is told of a program that was read, or of bytes that are none.
-pub fn told(output: Output, block: &mut [u8], p: &[u8], start: u64, limit: u64) -> Output
+fn told(output: Output, block: &mut [u8], p: &[u8], start: u64, limit: u64) -> Output
     ensures follows { λ r. ⌜ Follows output (now (block .entry)) (twoLines (now (p .entry)) limit (answerOf (report (now (p .entry)) start limit))) r
         (now (block .exit)) ⌝ }
 {
@@ -302,4 +304,12 @@ pub fn told(output: Output, block: &mut [u8], p: &[u8], start: u64, limit: u64) 
     let first = put_first_line(output, block, answer);
     let second = put_sentence(first, block, p, limit, answer);
     put(second, block, b"\n")
+}
+
+// The same where nothing is gathered yet, and the block has room for all of it.
+pub fn told_whole(block: &mut [u8], p: &[u8], start: u64, limit: u64) -> Output
+    requires { ⌜ length (now block) ≡ 512 ⌝ }
+    ensures whole { λ r. ⌜ gathered r (now (block .exit)) ≡ twoLines (now (p .entry)) limit (answerOf (report (now (p .entry)) start limit)) ⌝ }
+{
+    told(Output::new(), block, p, start, limit)
 }

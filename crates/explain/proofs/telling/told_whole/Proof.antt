@@ -1,0 +1,28 @@
+-- `explain::telling::told_whole` meets its contract: nothing waits, so that all of it fits.
+-- Assumes nothing.
+use mathlib.Core.Path.{ap}
+use lib.ListN.{take}
+use Rattle.explain.proofs.Fits.{told-whole}
+use borrow.Author.Needs.{needs}
+use Rattle.explain.proofs.telling.told_whole.Statement.{statement}
+use Rattle.explain.proofs.telling.told_whole.Tie as tie
+
+new-requires : tie.Need-new-requires
+new-requires c κs = search needs
+
+told-requires : tie.Need-told-requires
+told-requires c κs = search needs
+
+same-length : tie.Need-same-length
+same-length c = search needs
+
+returns : tie.Need-returns
+returns c =
+    let args = c .before .before .before .before .before .before .before .args in
+    let pre = c .before .before .before .before .before .before .before .pre in
+    let new = c .before .before .before .before .new in
+    let the-told = c .before .before .told in
+    told-whole _ _ _ pre (ap (λ n. take n (args .block .now)) (new .ensures .0)) (the-told .ensures) .0
+
+pub told-whole-spec : {M : Type 1} → statement M
+told-whole-spec = tie.close (tie.spec new-requires told-requires same-length returns)
