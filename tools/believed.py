@@ -5,7 +5,7 @@ Usage: python3 tools/believed.py [--check | --print | --laws | --why NAME]
 
 The theorems are what is public in the modules that the head of docs/PROMISES.md lists, but for definitions. Of each its statement counts,
 with the parameters of the modules that it stands in. So do the contracts of what is called from outside: of the public functions of
-`calls` and `nizhalepu`, and of the programs `bench` and `durations`. Every name used there is followed to its definition in the repository, and from the
+`calls` and `nizhalepu`, and of the programs `bench`, `durations` and `explain`. Every name used there is followed to its definition in the repository, and from the
 definition's own text on to the names that it uses; a struct or an enum of the sources counts by its lines there. It stops at the
 toolchain's library and at what STOPS lists, with the reason, which the page shows too: of such a definition only its signature is followed.
 What a computed theorem says of each row of a table stands in the row: the modules that ROWS lists count as statements.
@@ -38,6 +38,7 @@ STOPS = {
     ('crates/demands/specs/Said.antt', 'spoken'):
         'which command the history reads off the characters: `demands/Replies.accepted-exactly` says it in full, both ways',
     ('crates/duration/specs/Report.antt', 'report'): 'the report: the code is proved against it, and the theorems say what it answers',
+    ('crates/explanation/specs/Report.antt', 'report'): 'the report of a stop, likewise',
     ('crates/reader/specs/Reading.antt', 'readingAs'): 'the reader of logs, likewise',
     ('crates/reader/specs/Listing.antt', 'listing'): 'the text of a log, likewise',
 }
@@ -45,6 +46,7 @@ WORDS = 'Nobody has to believe this'
 # the modules of theorems by what they speak of; what is in none of these speaks of the box
 OF_LOGS = ('demands/Possible', 'demands/LogReads', 'demands/Exactly', 'demands/LogWords', 'reader/ReadBack', 'reader/Reasons')
 OF_DURATIONS = ('duration/Taking', 'duration/Refusing')
+OF_STOPS = ('demands/Stops', 'explanation/Explained', 'explanation/Refusing')
 OF_THE_CODE = ('calls/Outcome', 'calls/Kept', 'nizhalepu/Agreement')
 COMPUTED = ('demands/Worked', 'demands/Applied')
 # the modules of rows that the computed theorems speak of
@@ -52,7 +54,7 @@ ROWS = tuple(f'crates/demands/specs/{name}.antt' for name in
              ('Points', 'CallsTable', 'WireTable', 'VariablesTable', 'RunningTable', 'LogTable', 'Tables', 'Scripts'))
 CALLED = ('crates/calls/src/lib.rt', 'crates/nizhalepu/src/lib.rt')
 # the programs whose contracts say what they tell; that of `bench` stands in `console`
-PROGRAMS = ('crates/console/src/lib.rt', 'crates/durations/src/main.rt')
+PROGRAMS = ('crates/console/src/lib.rt', 'crates/durations/src/main.rt', 'crates/explain/src/telling.rt')
 
 # a definition, or a type of the sources: where it stands and what it is called
 Name = collections.namedtuple('Name', 'path name')
@@ -348,8 +350,9 @@ def groups(reader):
     return [('The box', 'The theorems of `demands` over calls and what is seen of them.', of(box)),
             ('A log read back', 'The theorems of `reader`, and of `demands` on what a log tells; what they add.', of(OF_LOGS)),
             ('How long a program takes', 'The theorems of `duration`; what they add.', of(OF_DURATIONS)),
+            ('Why a program stops', 'The theorems of `explanation`, and those of `demands` over it; what they add.', of(OF_STOPS)),
             ('The code', 'The theorems of `calls` and `nizhalepu`, and the contracts of what is called from outside, the library and the programs '
-             '`bench` and `durations`; what they add.',
+             '`bench`, `durations` and `explain`; what they add.',
              itertools.chain(of(OF_THE_CODE), contracts(reader))),
             ('Computed points', 'What `demands/Worked` and `demands/Applied` add: the languages that the points, tables and histories are written in. These '
              'themselves are what is stated.',

@@ -133,7 +133,9 @@ reason-within (ForLine k) e line c =
     (both (lit " was still in use by the For on line ") (both (digits-within 3 k) (both (lit ". ") (advice-within k line))))))
     (omega arith)
 reason-within (Sought n) e line c =
-    room 160 (both (lit "no Next of counter ") (both (digits-within 1 n) (both (lit " stands on a later line. Write N") (both (digits-within 1 n) (lit " on the line where the loop ends.")))))
+    room 160
+    (both (lit "no Next of counter ")
+    (both (digits-within 1 n) (both (lit " stands on a later line. Write N") (both (digits-within 1 n) (lit " on the line where the loop ends.")))))
     (omega arith)
 reason-within (ForAbove b) e line c = above-within b c
 reason-within (StateLine k) e line c =

@@ -27,7 +27,7 @@ use Rattle.explanation.proofs.Above.{isForOf, some-above, above-some}
 use Rattle.explanation.proofs.ByEvent as ByEvent
 use Rattle.explanation.proofs.Stopping.{stop-fact, last-moment}
 use Rattle.explanation.proofs.Whatever.{same-outcome}
-use Rattle.explanation.proofs.Refusing.{Fit, fit-told, told-fit, told-outcome}
+use Rattle.explanation.proofs.Order.{Fit, fit-told, told-fit, told-outcome}
 
 -- ---- there is one cause
 

@@ -7,6 +7,7 @@ pub mod Following
 pub mod ByEvent
 pub mod Stopping
 pub mod Whatever
+pub mod Order
 pub mod Refusing
 pub mod Explained
 pub mod Examples

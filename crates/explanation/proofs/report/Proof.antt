@@ -1,6 +1,6 @@
 -- `explanation::report` meets its contract: check by check.
 -- Assumes nothing.
-use Rattle.explanation.proofs.Refusing.{no-program, no-line, no-limit, well-told}
+use Rattle.explanation.proofs.Order.{no-program, no-line, no-limit, well-told}
 use borrow.Author.Needs.{needs}
 use Rattle.explanation.proofs.report.Statement.{statement}
 use Rattle.explanation.proofs.report.Tie as tie
