@@ -2,14 +2,14 @@
 -- Assumes nothing.
 use mathlib.Core.Path.{_≡_, refl}
 use Prim.Native.Nat.{ℕ, suc, _-_}
-use mathlib.Core.Bool.{Bool, true, false, not, _&&_, _||_}
+use mathlib.Core.Bool.{Bool, true, false, _&&_}
 use mathlib.Core.List.{List, [], _∷_, _++_}
 use lib.ListN.{length, replicate}
 use lib.Dec.{eqb}
 use Rattle.formats.specs.Checks.{if_then_else_, Res, refused, passed, _>>_, _orElse_}
 use Rattle.formats.specs.Digits.{digits, numberAfter}
 use Rattle.lines.specs.declared.Line.{Line}
-use Rattle.lines.specs.declared.Line.the-variants.{State, For, Next, Bad}
+use Rattle.lines.specs.declared.Line.the-variants.{State, For, Next}
 use Rattle.lines.specs.Line.{readLine, bytesOf}
 use Rattle.lines.specs.Program.{lineAt, firstNext, nextAfter}
 use Rattle.lines.specs.Searches.{someBefore, firstOf}

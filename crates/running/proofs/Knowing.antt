@@ -4,12 +4,10 @@ use Prim.Native.Nat.{ℕ, _+_, _≤_, _<_}
 use native.Mathlib.Omega.{arith}
 use mathlib.Core.Path.{_≡_, refl, sym, ap, subst, _∙_}
 use mathlib.Core.Logic.{_≢_}
-use mathlib.Core.Bool.{Bool, true, false, true≢false}
+use mathlib.Core.Bool.{true, true≢false}
 use mathlib.Core.List.{List, [], _∷_}
-use lib.ListN.{length, getD, set, length-set}
+use lib.ListN.{length, getD, set}
 use lib.Seq.{getD-set-same, getD-set-other}
-use lib.Dec.{eqb}
-use borrow.Author.Tests.{eqb-true, eqb-false}
 use types.Run.{OneOf, miss}
 use denote.Enum.Declared.{tagOf}
 use Rattle.formats.proofs.Order.{last-or-before}
@@ -74,7 +72,8 @@ all-known p {xs} {ys} {zs} i le up t = let e : i ≡ 200 = omega arith in subst 
 -- ---- a turn by it
 
 -- a For or a Next that has no Next is a Next
-next-by : (p : List ℕ) (l : Line) {k : ℕ} {held : Counter} {t : Turn} → isForOrNext l ≡ true → ((c x : ℕ) → l ≡ For c x → ⊥) → ((c : ℕ) → Leads [] (Next c) k held t)
+next-by : (p : List ℕ) (l : Line) {k : ℕ} {held : Counter} {t : Turn} → isForOrNext l ≡ true → ((c x : ℕ) → l ≡ For c x → ⊥)
+    → ((c : ℕ) → Leads [] (Next c) k held t)
     → Leads p l k held t
 unfolding runLine
 next-by p (State o t) loop none leads = absurd (true≢false (sym loop))

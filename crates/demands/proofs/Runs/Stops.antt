@@ -1,14 +1,11 @@
 -- How and why a program stops: what the report of a stop tells is what is seen of the box.
 -- Assumes nothing.
 use mathlib.Core.Path.{_≡_, sym, ap, _∙_}
-use Prim.Native.Nat.{ℕ, suc, _+_, _≤_, _<_}
-use native.Mathlib.Omega.{arith}
+use Prim.Native.Nat.{ℕ, _+_, _≤_, _<_}
 use mathlib.Core.Bool.{true, false}
 use Rattle.formats.specs.Checks.{passed}
 use Rattle.running.specs.declared.Run.{Run}
-use Rattle.running.specs.Running.{start}
 use Rattle.running.specs.Ticking as Ticking
-use Rattle.running.specs.Ticking.{EndsAfter}
 use Rattle.running.proofs.Reaching.{after-ticks}
 use Rattle.explanation.specs.declared.Stop.{Stop}
 use Rattle.explanation.specs.Report.{stillRunning, hasStopped, report}

@@ -17,7 +17,8 @@ use Rattle.running.proofs.known.due.Statement.{statement}
 use Rattle.running.proofs.known.due.Tie as tie
 
 abbrev Inv-loop : tie.InvT-loop
-Inv-loop p counters nexts counts run₀ n₀ run n = (n ≤ 400) × Going run × (runDue p 400 0 run₀ ≡ runDue p (400 - n) n run) × (lastDue p 400 run₀ ≡ lastDue p (400 - n) run)
+Inv-loop p counters nexts counts run₀ n₀ run n =
+    (n ≤ 400) × Going run × (runDue p 400 0 run₀ ≡ runDue p (400 - n) n run) × (lastDue p 400 run₀ ≡ lastDue p (400 - n) run)
 
 abbrev μ-loop : tie.MeasureT-loop
 μ-loop p counters nexts counts run₀ n₀ run n = 400 - n
@@ -29,58 +30,143 @@ cast-i : tie.Need-cast-i Inv-loop μ-loop
 cast-i c = search needs
 
 shared-slice-read-counter : tie.Need-shared-slice-read-counter Inv-loop μ-loop
-shared-slice-read-counter c = let g = c .before .before .loop .inv .1 .inProgram in let m = c .before .before .before .before .before .before .before .pre .3 .many .0 in search needs
+shared-slice-read-counter c =
+    let g = c .before .before .loop .inv .1 .inProgram in
+    let m = c .before .before .before .before .before .before .before .pre .3 .many .0 in
+    search needs
 
 add-n : tie.Need-add-n Inv-loop μ-loop
 add-n c = search needs
 
 sub-c : tie.Need-sub-c Inv-loop μ-loop
-sub-c c = let m = most-at (c .before .before .before .before .before .before .before .before .pre .3) _ (c .before .before .before .loop .inv .1 .inProgram) in search needs
+sub-c c =
+    let pre = c .before .before .before .before .before .before .before .before .pre in
+    let loop = c .before .before .before .loop in
+    let m = most-at (pre .3) _ (loop .inv .1 .inProgram) in
+    search needs
 
 cast-c : tie.Need-cast-c Inv-loop μ-loop
-cast-c c = let m = most-at (c .before .before .before .before .before .before .before .before .pre .3) _ (c .before .before .before .loop .inv .1 .inProgram) in search needs
+cast-c c =
+    let pre = c .before .before .before .before .before .before .before .before .pre in
+    let loop = c .before .before .before .loop in
+    let m = most-at (pre .3) _ (loop .inv .1 .inProgram) in
+    search needs
 
 mul-before : tie.Need-mul-before Inv-loop μ-loop
-mul-before c = let m = most-at (c .before .before .before .before .before .before .before .before .pre .3) _ (c .before .before .before .loop .inv .1 .inProgram) in search needs
+mul-before c =
+    let pre = c .before .before .before .before .before .before .before .before .pre in
+    let loop = c .before .before .before .loop in
+    let m = most-at (pre .3) _ (loop .inv .1 .inProgram) in
+    search needs
 
 element-copy-out-before : tie.Need-element-copy-out-before Inv-loop μ-loop
-element-copy-out-before c = omega (arith, most-at (c .before .before .before .before .before .before .before .before .pre .3) _ (c .before .before .before .loop .inv .1 .inProgram), c .if1 .left)
+element-copy-out-before c =
+    let pre = c .before .before .before .before .before .before .before .before .pre in
+    let loop = c .before .before .before .loop in
+    omega (arith, most-at (pre .3) _ (loop .inv .1 .inProgram), c .if1 .left)
 
 shared-slice-read-turn-known : tie.Need-shared-slice-read-turn-known Inv-loop μ-loop
-shared-slice-read-turn-known c = let g = c .before .before .before .before .before .loop .inv .1 .inProgram in let m = c .before .before .before .before .before .before .before .before .before .before .pre .3 .many .1 in search needs
+shared-slice-read-turn-known c =
+    let g = c .before .before .before .before .before .loop .inv .1 .inProgram in
+    let m = c .before .before .before .before .before .before .before .before .before .before .pre .3 .many .1 in
+    search needs
 
 mul-turn-known : tie.Need-mul-turn-known Inv-loop μ-loop
 mul-turn-known c = search needs
 
 shared-slice-read-turn-known-2 : tie.Need-shared-slice-read-turn-known-2 Inv-loop μ-loop
-shared-slice-read-turn-known-2 c = let g = c .before .before .before .before .before .before .loop .inv .1 .inProgram in let m = c .before .before .before .before .before .before .before .before .before .before .before .pre .3 .many .2 in search needs
+shared-slice-read-turn-known-2 c =
+    let g = c .before .before .before .before .before .before .loop .inv .1 .inProgram in
+    let m = c .before .before .before .before .before .before .before .before .before .before .before .pre .3 .many .2 in
+    search needs
 
 turn-known-requires : tie.Need-turn-known-requires Inv-loop μ-loop
 turn-known-requires c κs = c .before .before .before .before .before .before .loop .inv .1 .forLine _
 
 mul-held : tie.Need-mul-held Inv-loop μ-loop
-mul-held c = let m = most-at (c .before .before .before .before .before .before .before .before .before .before .before .before .before .pre .3) _ (c .before .before .before .before .before .before .before .before .loop .inv .1 .inProgram) in search needs
+mul-held c =
+    let earlier = c .before .before .before .before .before .before .before .before .before .before in
+    let pre = earlier .before .before .before .pre in
+    let loop = c .before .before .before .before .before .before .before .before .loop in
+    let m = most-at (pre .3) _ (loop .inv .1 .inProgram) in
+    search needs
 
 element-set-from-held : tie.Need-element-set-from-held Inv-loop μ-loop
-element-set-from-held c = omega (arith, most-at (c .before .before .before .before .before .before .before .before .before .before .before .before .before .pre .3) _ (c .before .before .before .before .before .before .before .before .loop .inv .1 .inProgram), c .before .before .before .before .before .if1 .left)
+element-set-from-held c =
+    let earlier = c .before .before .before .before .before .before .before .before .before .before in
+    let pre = earlier .before .before .before .pre in
+    let loop = c .before .before .before .before .before .before .before .before .loop in
+    let if1 = c .before .before .before .before .before .if1 in
+    omega (arith, most-at (pre .3) _ (loop .inv .1 .inProgram), if1 .left)
 
 enum-known-how : tie.Need-enum-known-how Inv-loop μ-loop
 enum-known-how c = search needs
 
 returns : tie.Need-returns Inv-loop μ-loop
-returns c = record { ran = due-left _ _ _ _ _ _ (c .before .before .before .before .before .before .before .before .before .before .loop-test .taken) refl (named-at (c .before .before .before .before .before .before .before .before .before .before .before .before .before .before .before .before .pre .3) _ (c .before .before .before .before .before .before .before .before .before .before .before .loop .inv .1 .inProgram)) (c .before .before .before .before .before .before .before .before .if1 .left) (c .before .before .before .before .turn-known .ensures _ (known-at (c .before .before .before .before .before .before .before .before .before .before .before .before .before .before .before .before .pre .3) _ (c .before .before .before .before .before .before .before .before .before .before .before .loop .inv .1 .inProgram) (c .before .before .before .before .before .before .before .before .if1 .left))) (c .before .how .given .1) ∙ sym (c .before .before .before .before .before .before .before .before .before .before .before .loop .inv .2); last = λ six. last-busy _ _ _ _ _ _ (c .before .before .before .before .before .before .before .before .before .before .loop-test .taken) refl (named-at (c .before .before .before .before .before .before .before .before .before .before .before .before .before .before .before .before .pre .3) _ (c .before .before .before .before .before .before .before .before .before .before .before .loop .inv .1 .inProgram)) (c .before .before .before .before .before .before .before .before .if1 .left) (c .before .before .before .before .turn-known .ensures _ (known-at (c .before .before .before .before .before .before .before .before .before .before .before .before .before .before .before .before .pre .3) _ (c .before .before .before .before .before .before .before .before .before .before .before .loop .inv .1 .inProgram) (c .before .before .before .before .before .before .before .before .if1 .left))) (c .before .how .given .1) six ∙ sym (c .before .before .before .before .before .before .before .before .before .before .before .loop .inv .3) }
+returns c =
+    let earlier = c .before .before .before .before .before .before .before .before .before .before in
+    let pre = earlier .before .before .before .before .before .before .pre in
+    let loop = c .before .before .before .before .before .before .before .before .before .before .before .loop in
+    let loop-test = c .before .before .before .before .before .before .before .before .before .before .loop-test in
+    let if1 = c .before .before .before .before .before .before .before .before .if1 in
+    let turn-known = c .before .before .before .before .turn-known in
+    let how = c .before .how in
+    record {
+      ran = due-left _ _ _ _ _ _ (loop-test .taken) refl (named-at (pre .3) _ (loop .inv .1 .inProgram)) (if1 .left)
+          (turn-known .ensures _ (known-at (pre .3) _ (loop .inv .1 .inProgram) (if1 .left))) (how .given .1) ∙ sym (loop .inv .2);
+      last =
+          λ six. last-busy _ _ _ _ _ _ (loop-test .taken) refl (named-at (pre .3) _ (loop .inv .1 .inProgram)) (if1 .left)
+          (turn-known .ensures _ (known-at (pre .3) _ (loop .inv .1 .inProgram) (if1 .left))) (how .given .1) six ∙ sym (loop .inv .3);
+    }
 
 loop-less : tie.Need-loop-less Inv-loop μ-loop
 loop-less c = search needs
 
 loop-again : tie.Need-loop-again Inv-loop μ-loop
-loop-again c = (search needs, due-going _ _ _ _ _ _ (c .before .before .before .before .before .before .before .before .loop-test .taken) refl (named-at (c .before .before .before .before .before .before .before .before .before .before .before .before .before .before .pre .3) _ (c .before .before .before .before .before .before .before .before .before .loop .inv .1 .inProgram)) (c .before .before .before .before .before .before .if1 .left) (c .before .before .turn-known .ensures _ (known-at (c .before .before .before .before .before .before .before .before .before .before .before .before .before .before .pre .3) _ (c .before .before .before .before .before .before .before .before .before .loop .inv .1 .inProgram) (c .before .before .before .before .before .before .if1 .left))) (c .before .before .before .before .before .before .before .before .before .loop .inv .1), c .before .before .before .before .before .before .before .before .before .loop .inv .2 ∙ due-goes-on _ _ _ _ _ _ (c .before .before .before .before .before .before .before .before .loop-test .taken) refl (named-at (c .before .before .before .before .before .before .before .before .before .before .before .before .before .before .pre .3) _ (c .before .before .before .before .before .before .before .before .before .loop .inv .1 .inProgram)) (c .before .before .before .before .before .before .if1 .left) (c .before .before .turn-known .ensures _ (known-at (c .before .before .before .before .before .before .before .before .before .before .before .before .before .before .pre .3) _ (c .before .before .before .before .before .before .before .before .before .loop .inv .1 .inProgram) (c .before .before .before .before .before .before .if1 .left))) (c .match .keys2), c .before .before .before .before .before .before .before .before .before .loop .inv .3 ∙ last-further _ _ _ _ _ _ (c .before .before .before .before .before .before .before .before .loop-test .taken) refl (named-at (c .before .before .before .before .before .before .before .before .before .before .before .before .before .before .pre .3) _ (c .before .before .before .before .before .before .before .before .before .loop .inv .1 .inProgram)) (c .before .before .before .before .before .before .if1 .left) (c .before .before .turn-known .ensures _ (known-at (c .before .before .before .before .before .before .before .before .before .before .before .before .before .before .pre .3) _ (c .before .before .before .before .before .before .before .before .before .loop .inv .1 .inProgram) (c .before .before .before .before .before .before .if1 .left))) (c .match .keys2))
+loop-again c = (
+  search needs,
+  let earlier = c .before .before .before .before .before .before .before .before .before .before in
+      let pre = earlier .before .before .before .before .pre in
+      let loop = c .before .before .before .before .before .before .before .before .before .loop in
+      let loop-test = c .before .before .before .before .before .before .before .before .loop-test in
+      let if1 = c .before .before .before .before .before .before .if1 in
+      let turn-known = c .before .before .turn-known in
+      due-going _ _ _ _ _ _ (loop-test .taken) refl (named-at (pre .3) _ (loop .inv .1 .inProgram)) (if1 .left)
+      (turn-known .ensures _ (known-at (pre .3) _ (loop .inv .1 .inProgram) (if1 .left))) (loop .inv .1),
+  let earlier = c .before .before .before .before .before .before .before .before .before .before in
+      let pre = earlier .before .before .before .before .pre in
+      let loop = c .before .before .before .before .before .before .before .before .before .loop in
+      let loop-test = c .before .before .before .before .before .before .before .before .loop-test in
+      let if1 = c .before .before .before .before .before .before .if1 in
+      let turn-known = c .before .before .turn-known in
+      loop .inv .2
+      ∙ due-goes-on _ _ _ _ _ _ (loop-test .taken) refl (named-at (pre .3) _ (loop .inv .1 .inProgram)) (if1 .left)
+      (turn-known .ensures _ (known-at (pre .3) _ (loop .inv .1 .inProgram) (if1 .left))) (c .match .keys2),
+  let earlier = c .before .before .before .before .before .before .before .before .before .before in
+      let pre = earlier .before .before .before .before .pre in
+      let loop = c .before .before .before .before .before .before .before .before .before .loop in
+      let loop-test = c .before .before .before .before .before .before .before .before .loop-test in
+      let if1 = c .before .before .before .before .before .before .if1 in
+      let turn-known = c .before .before .turn-known in
+      loop .inv .3
+      ∙ last-further _ _ _ _ _ _ (loop-test .taken) refl (named-at (pre .3) _ (loop .inv .1 .inProgram)) (if1 .left)
+      (turn-known .ensures _ (known-at (pre .3) _ (loop .inv .1 .inProgram) (if1 .left))) (c .match .keys2),
+)
 
 last-due-requires : tie.Need-last-due-requires Inv-loop μ-loop
 last-due-requires c κs = (c .before .before .before .before .before .before .pre .0, still (c .before .loop .inv .1))
 
 returns-2 : tie.Need-returns-2 Inv-loop μ-loop
-returns-2 c = record { ran = ap freed (c .last-due .ensures) ∙ due-freed _ _ _ _ ∙ ⊎-elim (λ w. all-counted _ _ _ (w .left)) (λ w. none-left _ _ _ refl (sym (named-at (c .before .before .before .before .before .before .before .pre .3) _ (c .before .before .loop .inv .1 .inProgram)) ∙ w .2 .taken) _) (c .before .loop-test .came) ∙ sym (c .before .before .loop .inv .2); last = λ six. absurd (last-never _ _ _ (sym (ap (λ (x : Ran). x .event) (c .last-due .ensures)) ∙ six)) }
+returns-2 c =
+    let pre = c .before .before .before .before .before .before .before .pre in
+    let loop = c .before .before .loop in
+    record {
+      ran = ap freed (c .last-due .ensures) ∙ due-freed _ _ _ _
+          ∙ ⊎-elim (λ w. all-counted _ _ _ (w .left))
+          (λ w. none-left _ _ _ refl (sym (named-at (pre .3) _ (loop .inv .1 .inProgram)) ∙ w .2 .taken) _) (c .before .loop-test .came)
+          ∙ sym (loop .inv .2);
+      last = λ six. absurd (last-never _ _ _ (sym (ap (λ (x : Ran). x .event) (c .last-due .ensures)) ∙ six));
+    }
 
 pub due-spec : {M : Type 1} → statement M
 due-spec =

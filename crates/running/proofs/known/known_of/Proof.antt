@@ -1,7 +1,7 @@
 -- `running::known::known_of` meets its contract: line by line.
 -- Assumes nothing.
 use Prim.Native.Nat.{_-_, _≤_}
-use mathlib.Core.Path.{_≡_, refl, _∙_}
+use mathlib.Core.Path.{_≡_, refl}
 use lib.ListN.{length, length-set}
 use Rattle.running.specs.Known.{Below}
 use Rattle.running.proofs.Knowing.{none-yet, one-more, all-known}
@@ -10,7 +10,8 @@ use Rattle.running.proofs.known.known_of.Statement.{statement}
 use Rattle.running.proofs.known.known_of.Tie as tie
 
 abbrev Inv-loop : tie.InvT-loop
-Inv-loop p counters₀ nexts₀ counts₀ i₀ counters nexts counts i = (i ≤ 200) × Below p i counters nexts counts × (length counters ≡ 200) × (length nexts ≡ 200) × (length counts ≡ 200)
+Inv-loop p counters₀ nexts₀ counts₀ i₀ counters nexts counts i =
+    (i ≤ 200) × Below p i counters nexts counts × (length counters ≡ 200) × (length nexts ≡ 200) × (length counts ≡ 200)
 
 abbrev μ-loop : tie.MeasureT-loop
 μ-loop p counters₀ nexts₀ counts₀ i₀ counters nexts counts i = 200 - i
@@ -52,7 +53,18 @@ loop-less : tie.Need-loop-less Inv-loop μ-loop
 loop-less c = search needs
 
 loop-again : tie.Need-loop-again Inv-loop μ-loop
-loop-again c = let q = c .before .before .before .before .before .loop .inv in (search needs, one-more _ _ (c .before .before .before .line-at .ensures) (q .2) (q .3) (q .4) (c .before .before .before .before .loop-test .taken) (c .before .before .counter-of .ensures) (c .before .next-of .ensures) (c .count-of .ensures) (q .1), simp length-set (q .2), simp length-set (q .3), simp length-set (q .4))
+loop-again c =
+    let q = c .before .before .before .before .before .loop .inv in (
+      search needs,
+      let loop-test = c .before .before .before .before .loop-test in
+          let line-at = c .before .before .before .line-at in
+          let counter-of = c .before .before .counter-of in
+          one-more _ _ (line-at .ensures) (q .2) (q .3) (q .4) (loop-test .taken) (counter-of .ensures) (c .before .next-of .ensures)
+          (c .count-of .ensures) (q .1),
+      simp length-set (q .2),
+      simp length-set (q .3),
+      simp length-set (q .4),
+    )
 
 returns : tie.Need-returns Inv-loop μ-loop
 returns c = let q = c .before .loop .inv in record { below = all-known _ _ (c .loop-test .left) (q .0) (q .1); many = (q .2, q .3, q .4) }

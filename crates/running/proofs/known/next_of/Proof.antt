@@ -17,7 +17,10 @@ next-after-requires : tie.Need-next-after-requires
 next-after-requires c κs = search needs
 
 returns-2 : tie.Need-returns-2
-returns-2 c = c .next-after .ensures ∙ sym (ap (nextFor (c .before .before .before .before .before .args .p .now) (c .before .before .before .before .before .args .k)) (c .before .before .l .given .1))
+returns-2 c =
+    let args = c .before .before .before .before .before .args in
+    let l = c .before .before .l in
+    c .next-after .ensures ∙ sym (ap (nextFor (args .p .now) (args .k)) (l .given .1))
 
 pub next-of-spec : {M : Type 1} → statement M
 next-of-spec = tie.close (tie.spec enum-known-l returns next-after-requires returns-2)

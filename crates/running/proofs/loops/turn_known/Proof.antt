@@ -1,6 +1,5 @@
 -- `running::loops::turn_known` meets its contract: by the Next.
 -- Assumes nothing.
-use mathlib.Core.Path.{_≡_}
 use Rattle.running.proofs.Knowing.{next-leads, for-leads}
 use borrow.Author.Needs.{needs}
 use Rattle.running.proofs.loops.turn_known.Statement.{statement}
