@@ -1,4 +1,5 @@
 // The two lines that are told of a program, gathered for output. Definitions: specs/Telling.antt.
+ghost use mathlib.Core.Bool.{true};
 ghost use mathlib.Core.List.{_++_};
 ghost use Prim.Native.Nat.{_≤_};
 ghost use mathlib.Core.Path.{_≡_};
@@ -90,7 +91,7 @@ fn put_fields(output: Output, block: &mut [u8], stop: Stop) -> Output
 
 // ---- the second line
 
-// 006: what to do about a For that holds the counter, on line k, and the program stopped on another.
+// 006: what to do about a counter that the For on line k holds, where the program stopped on this line.
 fn put_busy_advice(output: Output, block: &mut [u8], k: u8, line: u8) -> Output
     ensures follows { λ r. ⌜ Follows output (now (block .entry)) (busyAdvice k line) r (now (block .exit)) ⌝ }
 {
@@ -309,6 +310,7 @@ fn told(output: Output, block: &mut [u8], p: &[u8], start: u64, limit: u64) -> O
 // The same where nothing is gathered yet, and the block has room for all of it.
 pub fn told_whole(block: &mut [u8], p: &[u8], start: u64, limit: u64) -> Output
     requires { ⌜ length (now block) ≡ 512 ⌝ }
+    ensures open { λ r. ⌜ r .open ≡ true ⌝ }
     ensures whole { λ r. ⌜ gathered r (now (block .exit)) ≡ twoLines (now (p .entry)) limit (answerOf (report (now (p .entry)) start limit)) ⌝ }
 {
     told(Output::new(), block, p, start, limit)

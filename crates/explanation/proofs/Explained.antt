@@ -11,11 +11,14 @@ use Rattle.formats.proofs.Checks.{not-so}
 use Rattle.lines.specs.Searches.{someBefore}
 use Rattle.lines.proofs.Pairs.{counter-ranged, next-ranged}
 use Rattle.running.specs.declared.Run.{Run}
-use Rattle.running.specs.Running.{counter, begun, start}
+use Rattle.running.specs.Running.{counter, begun, isForOrNext, start}
+use Rattle.running.specs.Gone.{Gone, LoopLines, LastState}
+use Rattle.lines.specs.Program.{lineAt}
 use Rattle.running.specs.Ticking.{EndsAfter}
 use Rattle.running.specs.Moments.{lastDue}
 use Rattle.running.proofs.Reaching.{one-number}
-use Rattle.running.proofs.Gone.{held-line, one-way, ends-last}
+use Rattle.running.proofs.Gone.{held-line}
+use Rattle.running.proofs.OneWay.{one-way, ends-last, over-last, no-state, last-state-one}
 use Rattle.explanation.specs.declared.Cause.{Cause}
 use Rattle.explanation.specs.declared.Cause.the-variants.{ForLine, ForAbove, StateLine}
 use Rattle.explanation.specs.declared.Stop.{Stop}
@@ -41,8 +44,8 @@ module _ (p : List ℕ) (k o : ℕ) (s : Stop) where
   fact-told lt ends (inUse {c = c} {x = x} {j = j} {gone = gone} {last = last} event is line way there how held) =
       let m = last-moment p k o lt (s .tick) (rw event at ends) in
       let same : last ≡ lastDue p 400 (firstDue (s .tick) (heldAt p k o (s .tick))) =
-      one-way p (begun k o) gone (m .gone) last _ way (m .way) (ends-last p last how) (ends-last p _ (m .ends)) .1 in
-      let holder : j ≡ counter last c .line = held-line p k o gone last way c (counter-ranged p (s .line) c x line) j held in
+      one-way p (begun k o) gone (m .gone) last _ way (m .way) (ends-last p _ last how) (ends-last p _ _ (m .ends)) .1 in
+      let holder : j ≡ counter last c .line = held-line p k o gone last way c (counter-ranged p (s .line) c x line) j held .0 in
       is ∙ ap ForLine (holder ∙ ap (λ (r : Run). counter r c .line) same) ∙ sym (ByEvent.cause-006 p _ (s .tick) (s .line) _ event line)
   fact-told lt ends (noNext event is line none) = is ∙ sym (ByEvent.cause-007 p _ (s .tick) (s .line) _ event line)
   fact-told lt ends (forAbove {c = c} {j = j} event is line above for) =
@@ -58,8 +61,20 @@ module _ (p : List ℕ) (k o : ℕ) (s : Stop) where
   fact-told lt ends (stateHeld {j = j} {n = n} event is later there _ _ _ _) =
       let held : heldAt p k o (s .tick) .line ≡ j = ap (λ i. heldAt p k o i .line) later ∙ there in
       is ∙ ap StateLine (sym held) ∙ sym (ByEvent.cause-013-later p _ (s .tick) (s .line) _ event later)
-  fact-told lt ends (inTheStart event is first _ _ _ _ _) = is ∙ sym (ByEvent.cause-013-start p _ (s .tick) (s .line) _ event first)
+  fact-told lt ends (inTheStart event is first _ _ _ _) = is ∙ sym (ByEvent.cause-013-start p _ (s .tick) (s .line) _ event first)
   fact-told lt ends (other event is) = is ∙ sym (ByEvent.cause-other p _ (s .tick) (s .line) _ event)
+
+-- Where a 401st For or Next is due, the lines gone through say by themselves which State line was held last: no two are,
+pub one-last-state : (p : List ℕ) (b : Run) {g h : List ℕ} {s t : Run} {j i : ℕ} → Gone p b 400 g s → Gone p b 400 h t
+    → isForOrNext (lineAt p (s .line)) ≡ true → isForOrNext (lineAt p (t .line)) ≡ true → LastState p j 400 g → LastState p i 400 h → j ≡ i
+one-last-state p b {g} {h} {s} {t} {j} v w loop also held too =
+    last-state-one p h (subst (LastState p j 400) (one-way p b g h s t v w (over-last p s loop) (over-last p t also) .0) held) too
+
+-- and none is, where all of them are For and Next lines.
+pub no-last-state : (p : List ℕ) (b : Run) {g h : List ℕ} {s t : Run} {j : ℕ} → Gone p b 400 g s → Gone p b 400 h t
+    → isForOrNext (lineAt p (s .line)) ≡ true → isForOrNext (lineAt p (t .line)) ≡ true → LoopLines p g → LastState p j 400 h → ⊥
+no-last-state p b {g} {h} {s} {t} v w loop also loops held =
+    no-state p h (subst (LoopLines p) (one-way p b g h s t v w (over-last p s loop) (over-last p t also) .0) loops) held
 
 -- a stop by its parts
 stop-of-parts : {s t : Stop} → s .event ≡ t .event → s .tick ≡ t .tick → s .line ≡ t .line → s .cause ≡ t .cause → s ≡ t

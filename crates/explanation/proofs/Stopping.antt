@@ -43,7 +43,7 @@ module _ (p : List ℕ) (k o : ℕ) (lt : k < 200) where
   in-program n = did-kept p k o lt n .lineInProgram
 
   -- the call of tick n, whose first line falls due at r, stops the program
-  module _ (n e : ℕ) (event : did p k o n .event ≡ e) (r : Run) (gone : List ℕ) (way : Gone p b gone r) (due : firstDue n (heldAt p k o n) ≡ r)
+  module _ (n e : ℕ) (event : did p k o n .event ≡ e) (r : Run) (gone : List ℕ) (way : Gone p b 0 gone r) (due : firstDue n (heldAt p k o n) ≡ r)
       (stop : Stops p r e (did p k o n .run)) where
     abbrev s : Stop
     s = stopAt p k o n
@@ -55,7 +55,7 @@ module _ (p : List ℕ) (k o : ℕ) (lt : k < 200) where
     last-is = ap (lastDue p 400) due ∙ stops-last p r stop
 
     on : GoneOn p b (stop .lines) gone last
-    on = gone-within p b r last gone way (stop .within)
+    on = gone-within p b r last gone (stop .few) way (stop .within)
 
     -- the line where it stopped, if the last line left the run as it was
     line-is : stop .left .line ≡ last .line → last .line ≡ did p k o n .run .line
@@ -107,8 +107,8 @@ module _ (p : List ℕ) (k o : ℕ) (lt : k < 200) where
   -- ---- in the start, and at a later tick
 
   -- behind the State line that is held the run has gone through that line too, and there the next line falls due
-  way-behind : (n : ℕ) (h : Holding p b (did p k o n .run)) → h .at .line < 199 → Gone p b (h .at .line ∷ h .moment .gone) (behind (h .outputs) (h .at))
-  way-behind n h before = further (h .moment .way) (waits (h .line) (omega (arith, h .above, h .most)) before refl)
+  way-behind : (n : ℕ) (h : Holding p b (did p k o n .run)) → h .at .line < 199 → Gone p b 0 (h .at .line ∷ h .moment .gone) (behind (h .outputs) (h .at))
+  way-behind n h before = further (h .moment .way) (waits refl (h .line) (omega (arith, h .above, h .most)) before refl)
 
   due-behind : (n : ℕ) (h : Holding p b (did p k o n .run)) → h .at .line < 199 → h .wait ≡ 1
       → firstDue (suc n) (did p k o n .run) ≡ behind (h .outputs) (h .at)
@@ -119,11 +119,11 @@ module _ (p : List ℕ) (k o : ℕ) (lt : k < 200) where
   unfolding firstDue stopOf
   start-fact e ends =
       let stop = subst (λ (x : Ran). Stops p b e (x .run)) (sym (did-start p k o)) (stops-at-once p k o e ends) in
-      let on = gone-within p b b (stop .last) [] (begins refl) (stop .within) in
+      let on = gone-within p b b (stop .last) [] (stop .few) (begins refl) (stop .within) in
       let loops : LoopLines p (on .since ++ []) = rw (append-nil (on .since)) (on .loops) in
-      let many : length (on .since ++ []) ≡ stop .lines = ap length (append-nil (on .since)) ∙ on .many in
       call-fact 0 e (ends .event) b [] (begins refl) refl stop λ is all there loop.
-      inTheStart (ends .event ∙ is) (ByEvent.cause-013-start p _ 0 _ _ (ends .event ∙ is) refl) refl (on .way) there loop loops (many ∙ all)
+      inTheStart (ends .event ∙ is) (ByEvent.cause-013-start p _ 0 _ _ (ends .event ∙ is) refl) refl
+      (subst (λ i. Gone p b i (on .since ++ []) (stop .last)) all (on .way)) there loop loops
 
   later-fact : (n e : ℕ) → EndsAfter p (suc n) e (start p k o) → Fact p k o (stopAt p k o (suc n))
   unfolding stopOf
@@ -135,9 +135,10 @@ module _ (p : List ℕ) (k o : ℕ) (lt : k < 200) where
           let at = h .moment .gone in
           let way = way-behind n h before in
           let due = due-behind n h before one in
-          let on = gone-within p b (behind (h .outputs) (h .at)) (stop .last) (h .at .line ∷ at) way (stop .within) in
+          let on = gone-within p b (behind (h .outputs) (h .at)) (stop .last) (h .at .line ∷ at) (stop .few) way (stop .within) in
           call-fact (suc n) e (ends .event) (behind (h .outputs) (h .at)) (h .at .line ∷ at) way due stop λ is all there loop.
-          stateHeld (ends .event ∙ is) (ByEvent.cause-013-later p _ (suc n) _ _ (ends .event ∙ is) refl) refl refl (on .way) there loop
+          stateHeld (ends .event ∙ is) (ByEvent.cause-013-later p _ (suc n) _ _ (ends .event ∙ is) refl) refl refl
+          (subst (λ i. Gone p b i (on .since ++ (h .at .line ∷ at)) (stop .last)) all (on .way)) there loop
           (record {
             since = on .since;
             before = at;
@@ -151,17 +152,19 @@ module _ (p : List ℕ) (k o : ℕ) (lt : k < 200) where
 
   -- A program that ends at tick n with 006 does so at the last moment of its call.
   pub record LastMoment (n e : ℕ) : Type 0 where
+    pub lines : ℕ
     pub gone : List ℕ
-    pub way : Gone p b gone (lastDue p 400 (firstDue n (heldAt p k o n)))
+    pub way : Gone p b lines gone (lastDue p 400 (firstDue n (heldAt p k o n)))
     pub ends : step p (lastDue p 400 (firstDue n (heldAt p k o n))) .how ≡ Ends e
 
-  call-last : (n e : ℕ) → e ≢ 13 → (r : Run) (gone : List ℕ) → Gone p b gone r → firstDue n (heldAt p k o n) ≡ r → {v : Run} → Stops p r e v → LastMoment n e
+  call-last : (n e : ℕ) → e ≢ 13 → (r : Run) (gone : List ℕ) → Gone p b 0 gone r → firstDue n (heldAt p k o n) ≡ r → {v : Run} → Stops p r e v → LastMoment n e
   call-last n e ne r gone way due stop =
-      let on = gone-within p b r (stop .last) gone way (stop .within) in
+      let on = gone-within p b r (stop .last) gone (stop .few) way (stop .within) in
       let is : lastDue p 400 (firstDue n (heldAt p k o n)) ≡ stop .last = ap (lastDue p 400) due ∙ stops-last p r stop in
       record {
+        lines = stop .lines;
         gone = on .since ++ gone;
-        way = subst (Gone p b (on .since ++ gone)) (sym is) (on .way);
+        way = subst (Gone p b (stop .lines) (on .since ++ gone)) (sym is) (on .way);
         ends = ap (λ (x : Run). step p x .how) is ∙ go (stop .cause);
       }
     where

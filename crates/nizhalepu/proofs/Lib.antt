@@ -2,3 +2,4 @@ pub mod MachineValues
 pub mod Agreement
 pub mod Durations
 pub mod Stops
+pub mod Explaining

@@ -4,7 +4,7 @@ use Prim.Native.Nat.{ℕ, zero, suc, _+_, _-_, _≤_, _<_}
 use native.Mathlib.Omega.{arith}
 use mathlib.Core.Path.{_≡_, refl, sym, ap, subst, _∙_}
 use mathlib.Core.Bool.{Bool, true, false, true≢false}
-use mathlib.Core.List.{List}
+use mathlib.Core.List.{List, _∷_, _++_}
 use lib.Dec.{ltb}
 use borrow.Author.Tests.{ltb-true, ltb-false}
 use Rattle.formats.proofs.Checks.{if-case}
@@ -15,19 +15,19 @@ use Rattle.running.specs.declared.Ran.{Ran}
 use Rattle.running.specs.Running.{begun, withOutputs, waiting, stopped, onward, isForOrNext, stops, rests, follow, step, runDue, most, start, tick}
 use Rattle.running.specs.Ticking.{after, EndsAfter}
 use Rattle.running.specs.Gone.{behind, goes, waits, Gone, begins, further}
-use Rattle.running.specs.Moments.{Moment, Within, here, on, Cause, byLine, over, Stops, Holding, StopsAfter, past199, behindIt}
+use Rattle.running.specs.Moments.{Moment, AnyMoment, Within, here, on, Cause, byLine, over, Stops, Holding, StopsAfter, past199, behindIt}
 use Rattle.running.proofs.Waiting.{tick-before, tick-off, due-at}
 use Rattle.running.proofs.Invariant.{Going, step-going}
 use Rattle.running.proofs.Causes.{Way, isHeld, hasEnded, goesOn, step-way}
 use Rattle.running.proofs.Ending.{step-runs}
 use Rattle.running.proofs.Reaching.{after-one-more}
-use Rattle.running.proofs.Gone.{first-moment, next-moment}
+use Rattle.running.proofs.Gone.{first-moment, gone-within}
 
 -- ---- one call
 
 -- what the call in which r falls due did: the State line of s is held, or the program ended at s
 data Came (p : List ℕ) (r : Run) (x : Ran) : Type 0 where
-  held : {o t i : ℕ} (s : Run) (n : ℕ) → Within p r i s → lineAt p (s .line) ≡ State o t → 0 < t → x ≡ rests n (waiting t (withOutputs o s)) → Came p r x
+  held : {o t i : ℕ} (s : Run) (n : ℕ) → Within p r i s → i ≤ 400 → lineAt p (s .line) ≡ State o t → 0 < t → x ≡ rests n (waiting t (withOutputs o s)) → Came p r x
   ended : {i : ℕ} (s u : Run) (e n : ℕ) → Within p r i s → i ≤ 400 → Cause p s i e u → x ≡ stops e n u → Came p r x
 
 module _ (p : List ℕ) (b : Run) where
@@ -35,7 +35,7 @@ module _ (p : List ℕ) (b : Run) where
   follows : {i : ℕ} (r : Run) (n : ℕ) (go : Run → Ran) → i ≤ 400 → (isForOrNext (lineAt p (r .line)) ≡ true → i < 400) → Within p b i r → Way p r (step p r)
       → (isForOrNext (lineAt p (r .line)) ≡ true → (s : Run) → Within p b (suc i) s → Came p b (go s))
       → Came p b (follow (step p r .how) n (step p r .run) go)
-  follows r n go le few w (isHeld state above is) k = rw is (held r n w state above refl)
+  follows r n go le few w (isHeld state above is) k = rw is (held r n w le state above refl)
   follows r n go le few w (hasEnded e u why is) k = rw is (ended r u e n w le (byLine why is few) refl)
   follows r n go le few w (goesOn loop how) k = rw how (k loop (step p r .run) (on w how refl))
 
@@ -73,38 +73,37 @@ pub record Called (p : List ℕ) (b : Run) (x : Ran) : Type 0 where
 -- ---- moments
 
 -- what falls due in the same call is a moment too
-pub within-moment : (p : List ℕ) (b r s : Run) {n : ℕ} → Moment p b r → Within p r n s → Moment p b s
-within-moment p b r s m (here is) = rw (sym is) m
-within-moment p b r s m (on {r = t} w how is) = next-moment (within-moment p b r t m w) (goes how is)
+within-moment : (p : List ℕ) (b r s : Run) {n : ℕ} → n ≤ 400 → Moment p b r → Within p r n s → AnyMoment p b s
+within-moment p b r s {n} le m w = let on = gone-within p b r s (m .gone) le (m .way) w in record { lines = n; gone = on .since ++ m .gone; way = on .way }
 
 -- the invariant holds at every moment
-gone-going : (p : List ℕ) (b s : Run) {gone : List ℕ} → Going b → Gone p b gone s → Going s
+gone-going : (p : List ℕ) (b s : Run) {n : ℕ} {gone : List ℕ} → Going b → Gone p b n gone s → Going s
 gone-going p b s g (begins is) = rw (sym is) g
-gone-going p b s g (further {r = r} w (goes how is)) = rw (sym is) (step-going p r (gone-going p b r g w) .going)
-gone-going p b s g (further {r = r} w (waits state above lt is)) =
+gone-going p b s g (further {r = r} w (goes _ _ how is)) = rw (sym is) (step-going p r (gone-going p b r g w) .going)
+gone-going p b s g (further {r = r} w (waits _ state above lt is)) =
     let h = gone-going p b r g w in
     rw (sym is) (record { on = h .on; inProgram = omega arith; forLine = h .forLine; count = h .count; time = omega arith })
 
-pub moment-going : (p : List ℕ) (b s : Run) → Going b → Moment p b s → Going s
+pub moment-going : (p : List ℕ) (b s : Run) → Going b → AnyMoment p b s → Going s
 moment-going p b s g m = gone-going p b s g (m .way)
 
 -- at every moment the program runs
-gone-on : (p : List ℕ) (b s : Run) {gone : List ℕ} → b .on ≡ true → Gone p b gone s → s .on ≡ true
+gone-on : (p : List ℕ) (b s : Run) {n : ℕ} {gone : List ℕ} → b .on ≡ true → Gone p b n gone s → s .on ≡ true
 gone-on p b s starts (begins is) = rw (sym is) starts
-gone-on p b s starts (further {r = r} w (goes how is)) = rw (sym is) (step-runs p r (gone-on p b r starts w))
-gone-on p b s starts (further {r = r} w (waits state above lt is)) = rw (sym is) (gone-on p b r starts w)
+gone-on p b s starts (further {r = r} w (goes _ _ how is)) = rw (sym is) (step-runs p r (gone-on p b r starts w))
+gone-on p b s starts (further {r = r} w (waits _ state above lt is)) = rw (sym is) (gone-on p b r starts w)
 
-moment-on : (p : List ℕ) (b s : Run) → b .on ≡ true → Moment p b s → s .on ≡ true
+moment-on : (p : List ℕ) (b s : Run) → b .on ≡ true → AnyMoment p b s → s .on ≡ true
 moment-on p b s starts m = gone-on p b s starts (m .way)
 
 module _ (p : List ℕ) (b : Run) (starts : b .on ≡ true) where
   -- what a call at a moment leaves
   came-stands : (r : Run) (x : Ran) → Moment p b r → Came p r x → Standing p b (x .run)
   unfolding stopped
-  came-stands r x m (held s n w state above is) =
+  came-stands r x m (held s n w le state above is) =
       isHolding (record {
         at = s;
-        moment = within-moment p b r s m w;
+        moment = within-moment p b r s le m w;
         outputs = _;
         time = _;
         line = state;
@@ -117,8 +116,8 @@ module _ (p : List ℕ) (b : Run) (starts : b .on ≡ true) where
 
   -- and for what cause one ends the program
   came-stops : (r : Run) (x : Ran) → Moment p b r → x .run .on ≡ false → Came p r x → Stops p r (x .event) (x .run)
-  came-stops r x m off (held s n w state above is) =
-      absurd (true≢false (sym (moment-on p b s starts (within-moment p b r s m w)) ∙ ap (λ (y : Ran). y .run .on) (sym is) ∙ off))
+  came-stops r x m off (held s n w le state above is) =
+      absurd (true≢false (sym (moment-on p b s starts (within-moment p b r s le m w)) ∙ ap (λ (y : Ran). y .run .on) (sym is) ∙ off))
   came-stops r x m off (ended {i = i} s u e n w le why is) =
       record {
         last = s;
@@ -161,7 +160,11 @@ module _ (p : List ℕ) (b : Run) (starts : b .on ≡ true) where
 
   -- the line behind a held one is a moment too
   behind-moment : (v : Run) (h : Holding p b v) → h .at .line < 199 → Moment p b (behind (h .outputs) (h .at))
-  behind-moment v h lt = next-moment (h .moment) (waits (h .line) (omega (arith, h .above, h .most)) lt refl)
+  behind-moment v h lt =
+      record {
+        gone = h .at .line ∷ h .moment .gone;
+        way = further (h .moment .way) (waits refl (h .line) (omega (arith, h .above, h .most)) lt refl);
+      }
 
   -- a call in which r falls due
   due-comes : (r : Run) (x : Ran) → x ≡ runDue p most 0 r → Came p r x

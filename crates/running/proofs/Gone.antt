@@ -1,18 +1,17 @@
--- Laws of the lines that a run goes through: the For that holds a busy counter, and that a run goes one way.
+-- Laws of the lines that a run goes through: the For that holds a busy counter, and the lines of one call.
 -- Assumes nothing.
-use Prim.Native.Nat.{ℕ, suc, _+_, _-_, _<_}
+use Prim.Native.Nat.{ℕ, suc, _+_, _-_, _≤_, _<_}
 use native.Mathlib.Omega.{arith}
-use mathlib.Core.Path.{_≡_, refl, sym, ap, subst, _∙_}
+use mathlib.Core.Path.{_≡_, refl, sym, ap, _∙_}
 use mathlib.Core.Logic.{_≢_}
 use mathlib.Core.Bool.{Bool, true, false}
 use mathlib.Core.List.{List, [], _∷_, _++_}
 use lib.ListN.{length, getD, set, length-set}
 use lib.Seq.{getD-set-same, getD-set-other}
-use lib.Dec.{eqb, ltb}
-use borrow.Author.Tests.{eqb-true, eqb-false, ne-eqb, eq-eqb, ltb-true, ltb-false}
+use lib.Dec.{eqb}
+use borrow.Author.Tests.{eqb-true, eqb-false, ne-eqb, eq-eqb}
 use Rattle.formats.specs.Checks.{if_then_else_}
 use Rattle.formats.proofs.Parts.{replicated}
-use Rattle.formats.proofs.Order.{last-or-before}
 use Rattle.lines.specs.declared.Line.{Line}
 use Rattle.lines.specs.declared.Line.the-variants.{State, For, Next, Bad}
 use Rattle.lines.specs.Line.{OneToFour}
@@ -23,17 +22,17 @@ use Rattle.running.specs.declared.Run.{Run}
 use Rattle.running.specs.declared.How.the-variants.{Holds, Ends, GoesOn}
 use Rattle.running.specs.declared.Step.{Step}
 use Rattle.running.specs.Running.{free, counter, begun, runLine, isForOrNext, step}
-use Rattle.running.specs.Gone.{behind, FollowedBy, goes, waits, Gone, begins, further, nextsOf, HeldBy, LoopLines}
-use Rattle.running.specs.Moments.{Moment, Within, here, on}
+use Rattle.running.specs.Gone.{FollowedBy, goes, waits, Gone, begins, further, nextsOf, HeldBy, LoopLines}
+use Rattle.running.specs.Moments.{Moment, AnyMoment, Within, here, on}
 use Rattle.running.proofs.Ways.{onward-ways, state-ways, for-ways, next-ways, bad-way}
 use Rattle.running.proofs.Causes.{Way, isHeld, hasEnded, goesOn, step-way}
 
 -- ---- what a line that goes on does with the counters
 
-ends-not : {e : ℕ} {A : Type 0} → Ends e ≡ GoesOn → A
+pub ends-not : {e : ℕ} {A : Type 0} → Ends e ≡ GoesOn → A
 ends-not q = let z : _≡_ {A = ℕ} 0 1 = cc in absurd (omega arith)
 
-holds-not : {A : Type 0} → Holds ≡ GoesOn → A
+pub holds-not : {A : Type 0} → Holds ≡ GoesOn → A
 holds-not q = let z : _≡_ {A = ℕ} 0 1 = cc in absurd (omega arith)
 
 module _ (p : List ℕ) (r : Run) where
@@ -250,11 +249,11 @@ module _ (p : List ℕ) (b : Run) where
   on-handled : (gone : List ℕ) (r s : Run) → Known gone r → Handled p r s → Known (r .line ∷ gone) s
   on-handled gone r s k h = record { four = h .four; each = λ c q. knows-on p c gone r s (k .each c q) (h .each c q) }
 
-  followed-known : (gone : List ℕ) (r s : Run) → Known gone r → FollowedBy p r s → Known (r .line ∷ gone) s
-  followed-known gone r s k (goes how is) = rw (sym is) (on-handled gone r _ k (step-handled p r (k .four) how))
-  followed-known gone r s k (waits state above lt is) = rw (sym is) (on-handled gone r _ k (state-handled p r state (k .four) _ refl))
+  followed-known : (gone : List ℕ) {n m : ℕ} (r s : Run) → Known gone r → FollowedBy p n r m s → Known (r .line ∷ gone) s
+  followed-known gone r s k (goes _ _ how is) = rw (sym is) (on-handled gone r _ k (step-handled p r (k .four) how))
+  followed-known gone r s k (waits _ state above lt is) = rw (sym is) (on-handled gone r _ k (state-handled p r state (k .four) _ refl))
 
-  known : {gone : List ℕ} (s : Run) → Known [] b → Gone p b gone s → Known gone s
+  known : {n : ℕ} {gone : List ℕ} (s : Run) → Known [] b → Gone p b n gone s → Known gone s
   known s k (begins is) = rw (sym is) k
   known s k (further {gone = gone} {r = r} w step) = followed-known gone r s (known r k w) step
 
@@ -274,7 +273,7 @@ module _ (p : List ℕ) (k o : ℕ) where
       no-line j before [] e = let z : _≡_ {A = ℕ} 0 1 = cc in omega arith
       no-line j before (m ∷ ms) e = let z : _≡_ {A = ℕ} 0 1 = cc in omega arith
 
-  module _ (gone : List ℕ) (s : Run) (w : Gone p (begun k o) gone s) (c : ℕ) (q : OneToFour c) where
+  module _ {n : ℕ} (gone : List ℕ) (s : Run) (w : Gone p (begun k o) n gone s) (c : ℕ) (q : OneToFour c) where
     it : Knows p c gone s
     it = known p (begun k o) s nothing-yet w .each c q
 
@@ -282,12 +281,12 @@ module _ (p : List ℕ) (k o : ℕ) where
     pub busy-held : 0 < counter s c .count → HeldBy p c (counter s c .line) gone
     busy-held = it .so
 
-    -- and no other does.
-    pub held-line : (j : ℕ) → HeldBy p c j gone → j ≡ counter s c .line
-    held-line j h = sym (it .only j h .1)
+    -- and no other does; a For holds only a busy one.
+    pub held-line : (j : ℕ) → HeldBy p c j gone → (j ≡ counter s c .line) × (0 < counter s c .count)
+    held-line j h = let is = it .only j h in (sym (is .1), omega (arith, is .0, h .few))
 
 -- So the line that stands in a busy counter is a For of that counter.
-pub busy-line : (p : List ℕ) (k o : ℕ) (s : Run) → Moment p (begun k o) s → (c : ℕ) → OneToFour c → 0 < counter s c .count
+pub busy-line : (p : List ℕ) (k o : ℕ) (s : Run) → AnyMoment p (begun k o) s → (c : ℕ) → OneToFour c → 0 < counter s c .count
     → (x : ℕ) × (lineAt p (counter s c .line) ≡ For c x)
 busy-line p k o s m c q busy = let h = busy-held p k o (m .gone) s (m .way) c q busy in (h .count, h .line)
 
@@ -296,8 +295,8 @@ busy-line p k o s m c q busy = let h = busy-held p k o (m .gone) s (m .way) c q 
 pub first-moment : {p : List ℕ} {b : Run} → Moment p b b
 first-moment = record { gone = []; way = begins refl }
 
-pub next-moment : {p : List ℕ} {b r s : Run} → Moment p b r → FollowedBy p r s → Moment p b s
-next-moment {r = r} m f = record { gone = r .line ∷ m .gone; way = further (m .way) f }
+pub any-moment : {p : List ℕ} {b s : Run} → Moment p b s → AnyMoment p b s
+any-moment m = record { lines = 0; gone = m .gone; way = m .way }
 
 -- ---- the lines of one call
 
@@ -314,73 +313,18 @@ module _ (p : List ℕ) where
   -- what falls due n lines later in a call: the run has gone through n For and Next lines more
   pub record GoneOn (b : Run) (n : ℕ) (gone : List ℕ) (s : Run) : Type 0 where
     pub since : List ℕ
-    pub way : Gone p b (since ++ gone) s
+    pub way : Gone p b n (since ++ gone) s
     pub many : length since ≡ n
     pub loops : LoopLines p since
 
-  pub gone-within : (b r s : Run) (gone : List ℕ) {n : ℕ} → Gone p b gone r → Within p r n s → GoneOn b n gone s
-  gone-within b r s gone g (here is) = record { since = []; way = rw (sym is) g; many = refl; loops = refl }
-  gone-within b r s gone g (on {r = t} w how is) =
-      let before = gone-within b r t gone g w in
+  pub gone-within : (b r s : Run) (gone : List ℕ) {n : ℕ} → n ≤ 400 → Gone p b 0 gone r → Within p r n s → GoneOn b n gone s
+  gone-within b r s gone le g (here is) = record { since = []; way = rw (sym is) g; many = refl; loops = refl }
+  gone-within b r s gone le g (on {r = t} w how is) =
+      let before = gone-within b r t gone (omega arith) g w in
       let loop = goes-loop t how in
       record {
         since = t .line ∷ before .since;
-        way = further (before .way) (goes how is);
+        way = further (before .way) (goes (omega arith) refl how is);
         many = ap suc (before .many);
         loops = rw loop (before .loops);
       }
-
--- ---- a run goes one way
-
-module _ (p : List ℕ) where
-  -- a State line with a time is held
-  pub state-held : (r : Run) {o t : ℕ} → lineAt p (r .line) ≡ State o t → 0 < t → step p r .how ≡ Holds
-  unfolding step runLine
-  state-held r {o} {t} line above = rw (line, ne-eqb t 0 (λ z. omega arith))
-
-  followed-one : (r s t : Run) → FollowedBy p r s → FollowedBy p r t → s ≡ t
-  followed-one r s t (goes _ is) (goes _ so) = sym is ∙ so
-  followed-one r s t (goes how _) (waits state above _ _) = holds-not (sym (state-held r state above) ∙ how)
-  followed-one r s t (waits state above _ _) (goes how _) = holds-not (sym (state-held r state above) ∙ how)
-  followed-one r s t (waits {o = o} state _ _ is) (waits {o = q} also _ _ so) =
-      let same : o ≡ q = outputs-of (sym state ∙ also) in sym is ∙ ap (λ w. behind w r) same ∙ so
-    where
-      outputs-of : {o t q u : ℕ} → State o t ≡ State q u → o ≡ q
-      outputs-of e = cc
-
-  module _ (b : Run) where
-    -- behind as many lines stands one moment, and they are the same lines
-    gone-one : {g h : List ℕ} (s t : Run) → Gone p b g s → Gone p b h t → length g ≡ length h → (g ≡ h) × (s ≡ t)
-    gone-one s t (begins is) (begins so) e = (refl, sym is ∙ so)
-    gone-one s t (begins is) (further w f) e = absurd (omega arith)
-    gone-one s t (further w f) (begins so) e = absurd (omega arith)
-    gone-one s t (further {gone = g} {r = r} v f) (further {gone = h} {r = q} w e) lengths =
-        let both = gone-one r q v w (omega arith) in
-        let lines : r .line ∷ g ≡ q .line ∷ h = ap (λ (x : Run). x .line ∷ g) (both .1) ∙ ap (λ ls. q .line ∷ ls) (both .0) in
-        (lines, followed-one q s t (subst (λ (x : Run). FollowedBy p x s) (both .1) f) e)
-
-    -- a run that went further went on from there
-    went-on : {g h : List ℕ} (s t : Run) → Gone p b g s → Gone p b h t → length g < length h → (u : Run) × FollowedBy p s u
-    went-on s t v (begins is) lt = absurd (omega arith)
-    went-on {g} s t v (further {gone = h} {r = r} w f) lt =
-        last-or-before (length g) (length h) lt
-        (λ e. (t, subst (λ (x : Run). FollowedBy p x t) (sym (gone-one s r v w e .1)) f)) (λ before. went-on s r v w before)
-
-    -- A run comes to one moment from which no line follows, by one way.
-    pub one-way : (g h : List ℕ) (s t : Run) → Gone p b g s → Gone p b h t → ((u : Run) → FollowedBy p s u → ⊥) → ((u : Run) → FollowedBy p t u → ⊥)
-        → (g ≡ h) × (s ≡ t)
-    one-way g h s t v w last also = go (ltb (length g) (length h)) refl (ltb (length h) (length g)) refl
-      where
-        go : (x : Bool) → ltb (length g) (length h) ≡ x → (y : Bool) → ltb (length h) (length g) ≡ y → (g ≡ h) × (s ≡ t)
-        go true x y e = let on = went-on s t v w (ltb-true (length g) (length h) x) in absurd (last (on .0) (on .1))
-        go false x true e = let on = went-on t s w v (ltb-true (length h) (length g) e) in absurd (also (on .0) (on .1))
-        go false x false e =
-            gone-one s t v w (omega (arith, ltb-false (length g) (length h) x, ltb-false (length h) (length g) e))
-
-  -- a line that ends the program leads no further
-  pub ends-last : (s : Run) {e : ℕ} → step p s .how ≡ Ends e → (u : Run) → FollowedBy p s u → ⊥
-  ends-last s is u (goes how _) = ends-not (sym is ∙ how)
-  ends-last s is u (waits state above _ _) = ends-no-hold (sym is ∙ state-held s state above)
-    where
-      ends-no-hold : {e : ℕ} → Ends e ≡ Holds → ⊥
-      ends-no-hold q = let z : _≡_ {A = ℕ} 0 1 = cc in omega arith

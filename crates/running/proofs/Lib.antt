@@ -15,6 +15,7 @@ pub mod Arriving
 pub mod Looping
 pub mod Stretches
 pub mod Gone
+pub mod OneWay
 pub mod Coming
 pub mod OneStop
 pub mod Aside

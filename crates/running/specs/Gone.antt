@@ -1,6 +1,6 @@
 -- The lines that a run goes through, one behind the other by the running rules, and the For that holds a counter.
 -- 02, item 9: "for 006 the line of the For that holds the counter, [...] for 013 the State line last held, if any".
-use Prim.Native.Nat.{ℕ, _+_, _<_}
+use Prim.Native.Nat.{ℕ, suc, _+_, _<_}
 use mathlib.Core.Path.{_≡_}
 use mathlib.Core.Bool.{true}
 use mathlib.Core.List.{List, [], _∷_, _++_}
@@ -18,15 +18,17 @@ use Rattle.running.specs.Running.{atLine, withOutputs, waiting, isForOrN
 abbrev pub behind : ℕ → Run → Run
 behind outputs r = atLine (r .line + 1) (waiting 1 (withOutputs outputs r))
 
--- s comes next after r: a For or a Next goes on to it, or the line of r is a State and is held for its time
-pub data FollowedBy (p : List ℕ) (r s : Run) : Type 0 where
-  goes : step p r .how ≡ GoesOn → step p r .run ≡ s → FollowedBy p r s
-  waits : {o t : ℕ} → lineAt p (r .line) ≡ State o t → 0 < t → r .line < 199 → behind o r ≡ s → FollowedBy p r s
+-- s comes next after r: a For or a Next goes on to it, one of the 400 of a call at most; or the line of r is a State and is held for its time, and s falls due in
+-- another call. Before r n For and Next lines were run in its call, before s m in its own.
+pub data FollowedBy (p : List ℕ) (n : ℕ) (r : Run) (m : ℕ) (s : Run) : Type 0 where
+  goes : n < 400 → m ≡ suc n → step p r .how ≡ GoesOn → step p r .run ≡ s → FollowedBy p n r m s
+  waits : {o t : ℕ} → m ≡ 0 → lineAt p (r .line) ≡ State o t → 0 < t → r .line < 199 → behind o r ≡ s → FollowedBy p n r m s
 
--- From b on, the run has gone through the lines `gone`, the last of them first, and the line of s falls due.
-pub data Gone (p : List ℕ) (b : Run) : List ℕ → Run → Type 0 where
-  begins : {s : Run} → b ≡ s → Gone p b [] s
-  further : {gone : List ℕ} {r s : Run} → Gone p b gone r → FollowedBy p r s → Gone p b (r .line ∷ gone) s
+-- From b on, with which a call begins, the run has gone through the lines `gone`, the last of them first, and the line of s falls due, behind n For and Next lines
+-- of its call.
+pub data Gone (p : List ℕ) (b : Run) : ℕ → List ℕ → Run → Type 0 where
+  begins : {s : Run} → b ≡ s → Gone p b 0 [] s
+  further : {n m : ℕ} {gone : List ℕ} {r s : Run} → Gone p b n gone r → FollowedBy p n r m s → Gone p b m (r .line ∷ gone) s
 
 -- ---- the For that holds a counter
 

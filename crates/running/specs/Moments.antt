@@ -14,10 +14,16 @@ use Rattle.running.specs.Gone.{behind, Gone}
 
 -- ---- moments
 
--- s is a moment of the run that begins with b
+-- s is a moment of the run that begins with b, with which a call begins: no line was run in it yet
 pub record Moment (p : List ℕ) (b s : Run) : Type 0 where
   pub gone : List ℕ
-  pub way : Gone p b gone s
+  pub way : Gone p b 0 gone s
+
+-- or one behind some lines of its call
+pub record AnyMoment (p : List ℕ) (b s : Run) : Type 0 where
+  pub lines : ℕ
+  pub gone : List ℕ
+  pub way : Gone p b lines gone s
 
 -- it falls due in the same call as b, n lines later, each of them a For or a Next
 pub data Within (p : List ℕ) (b : Run) : ℕ → Run → Type 0 where
@@ -59,7 +65,7 @@ pub record Stops (p : List ℕ) (r : Run) (e : ℕ) (v : Run) : Type 0 where
 -- The run v holds the State line of the moment `at`, with w ticks still to wait.
 pub record Holding (p : List ℕ) (b v : Run) : Type 0 where
   pub at : Run
-  pub moment : Moment p b at
+  pub moment : AnyMoment p b at
   pub outputs : ℕ
   pub time : ℕ
   pub line : lineAt p (at .line) ≡ State outputs time

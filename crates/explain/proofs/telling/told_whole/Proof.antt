@@ -1,6 +1,6 @@
 -- `explain::telling::told_whole` meets its contract: nothing waits, so that all of it fits.
 -- Assumes nothing.
-use mathlib.Core.Path.{ap}
+use mathlib.Core.Path.{ap, _∙_}
 use lib.ListN.{take}
 use Rattle.explain.proofs.Fits.{told-whole}
 use borrow.Author.Needs.{needs}
@@ -21,8 +21,8 @@ returns c =
     let args = c .before .before .before .before .before .before .before .args in
     let pre = c .before .before .before .before .before .before .before .pre in
     let new = c .before .before .before .before .new in
-    let the-told = c .before .before .told in
-    told-whole _ _ _ pre (ap (λ n. take n (args .block .now)) (new .ensures .0)) (the-told .ensures) .0
+    let whole = told-whole _ _ _ pre (ap (λ n. take n (args .block .now)) (new .ensures .0)) (c .before .before .told .ensures) in
+    (whole .1 ∙ new .ensures .1, whole .0)
 
 pub told-whole-spec : {M : Type 1} → statement M
 told-whole-spec = tie.close (tie.spec new-requires told-requires same-length returns)
