@@ -138,7 +138,7 @@ endsSo onBad x =
     ∷ []
 endsSo goesOn x = isStill (stopReport (goes (x .begins .before) .last .held .program) (x .begins .line) (x .count)) ∷ []
 
--- a start that ends the program at once: by the report, or on a Bad line; what is read then is in `found`
+-- a start that ends the program at once, on its line: by the report of ticks, or on a Bad line, and by the report of a stop; what is read then is in `found`
 pub record AtOnce : Type 0 where
   pub begins : Begins
   pub isOnBad : Bool
@@ -153,6 +153,7 @@ atOnce x =
     ++ (
     (if x .isOnBad then isBad (lineAt p (x .begins .line)) else (eqb (x .begins .line) 0 && isGiven (report p) 0))
     ∷ isAsSaid (x .found) (e .moments)
+    ∷ isStop (stopReport p (x .begins .line) 0) (if x .isOnBad then 14 else 11) 0 (x .begins .line)
     ∷ []
     )
 

@@ -8,9 +8,8 @@ use mathlib.Core.List.{List}
 use Rattle.formats.specs.Checks.{Res, refused, passed}
 use Rattle.formats.specs.Order.{First}
 use Rattle.lines.specs.declared.Line.the-variants.{For}
-use Rattle.lines.specs.Program.{lineAt, NoneFrom}
+use Rattle.lines.specs.Program.{NoneFrom}
 use Rattle.running.specs.Gone.{HeldBy, LastState}
-use Rattle.explanation.specs.declared.Cause.{Cause}
 use Rattle.explanation.specs.declared.Stop.{Stop}
 use Rattle.explanation.specs.Report.{Outcome, stillRunning, hasStopped, report, causeNumber}
 use Rattle.explanation.specs.Reasons.{Reason, place}
@@ -54,11 +53,8 @@ module _ (p : List ℕ) (k o : ℕ) (s : Stop) where
 -- ---- what C is given
 
 module _ (p : List ℕ) (k limit : ℕ) where
-  abbrev given : Explained
-  given = explainedOf (report p k limit)
-
   -- A refusal other than 0 is the first reason that holds.
-  pub refusal-so : given .refusal ≢ 0 → First place (Reason p k limit) (given .refusal)
+  pub refusal-so : explainedOf (report p k limit) .refusal ≢ 0 → First place (Reason p k limit) (explainedOf (report p k limit) .refusal)
   refusal-so some = go (report p k limit) refl some
     where
       go : (r : Res Outcome) → report p k limit ≡ r → explainedOf r .refusal ≢ 0 → First place (Reason p k limit) (explainedOf r .refusal)
@@ -67,7 +63,7 @@ module _ (p : List ℕ) (k limit : ℕ) where
       go (passed (hasStopped s)) is some = absurd (some refl)
 
   -- An event other than 0 stops the run by the rules so, at that tick, on that line, and for that cause, whatever the outputs at the start.
-  pub said-so : given .event ≢ 0 → (o : ℕ) → SaysSo p k o given
+  pub said-so : explainedOf (report p k limit) .event ≢ 0 → (o : ℕ) → SaysSo p k o (explainedOf (report p k limit))
   said-so some o = go (report p k limit) refl some
     where
       go : (r : Res Outcome) → report p k limit ≡ r → explainedOf r .event ≢ 0 → SaysSo p k o (explainedOf r)
@@ -77,7 +73,7 @@ module _ (p : List ℕ) (k limit : ℕ) where
           let so = stops-as-told p k limit s is o in record { ends = so .ends; there = so .there; fact = in-numbers p k o s (so .fact) }
 
   -- With neither the program still runs, up to the limit.
-  pub still-so : given .refusal ≡ 0 → given .event ≡ 0 → (o : ℕ) → StillRuns p k o limit
+  pub still-so : explainedOf (report p k limit) .refusal ≡ 0 → explainedOf (report p k limit) .event ≡ 0 → (o : ℕ) → StillRuns p k o limit
   still-so none no-event o = go (report p k limit) refl none no-event
     where
       go : (r : Res Outcome) → report p k limit ≡ r → explainedOf r .refusal ≡ 0 → explainedOf r .event ≡ 0 → StillRuns p k o limit

@@ -27,7 +27,8 @@ use Rattle.running.proofs.Gone.{first-moment, gone-within}
 
 -- what the call in which r falls due did: the State line of s is held, or the program ended at s
 data Came (p : List ℕ) (r : Run) (x : Ran) : Type 0 where
-  held : {o t i : ℕ} (s : Run) (n : ℕ) → Within p r i s → i ≤ 400 → lineAt p (s .line) ≡ State o t → 0 < t → x ≡ rests n (waiting t (withOutputs o s)) → Came p r x
+  held : {o t i : ℕ} (s : Run) (n : ℕ) → Within p r i s → i ≤ 400 → lineAt p (s .line) ≡ State o t → 0 < t
+      → x ≡ rests n (waiting t (withOutputs o s)) → Came p r x
   ended : {i : ℕ} (s u : Run) (e n : ℕ) → Within p r i s → i ≤ 400 → Cause p s i e u → x ≡ stops e n u → Came p r x
 
 module _ (p : List ℕ) (b : Run) where

@@ -111,6 +111,10 @@ module _ (p : List ℕ) where
     where
       go : (xs ys : List ℕ) → LoopLines p xs → LoopLines p ys → xs ++ (j ∷ s .before) ≡ ys ++ (i ∷ t .before) → j ≡ i
       go [] [] a b e = cc
-      go [] (y ∷ ys) a b e = let first : y ≡ j = cc in absurd (state-no-loop j (s .line) (ap (λ l. isForOrNext (lineAt p l)) (sym first) ∙ loops-first y ys b .0))
-      go (x ∷ xs) [] a b e = let first : x ≡ i = cc in absurd (state-no-loop i (t .line) (ap (λ l. isForOrNext (lineAt p l)) (sym first) ∙ loops-first x xs a .0))
+      go [] (y ∷ ys) a b e =
+          let first : y ≡ j = cc in
+          absurd (state-no-loop j (s .line) (ap (λ l. isForOrNext (lineAt p l)) (sym first) ∙ loops-first y ys b .0))
+      go (x ∷ xs) [] a b e =
+          let first : x ≡ i = cc in
+          absurd (state-no-loop i (t .line) (ap (λ l. isForOrNext (lineAt p l)) (sym first) ∙ loops-first x xs a .0))
       go (x ∷ xs) (y ∷ ys) a b e = go xs ys (loops-first x xs a .1) (loops-first y ys b .1) (cc)

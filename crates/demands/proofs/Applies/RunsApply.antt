@@ -52,7 +52,7 @@ use Rattle.demands.proofs.Applies.Walked.{
   holds-at,
 }
 use Rattle.demands.proofs.Runs.ByTheRules.{runs-by-the-rules, outputs-by-the-rules, ends-by-the-rules, pauses-only}
-use Rattle.demands.proofs.Runs.Stops.{runs-until-then, stops-as-explained, runs-as-explained}
+use Rattle.demands.proofs.Runs.Stops.{runs-until-then, stops-as-explained, stops-in-the-start, runs-as-explained}
 use Rattle.demands.proofs.Runs.Ends.{bad-start, bad-tick, runs-as-long, ends-on-time, ends-at-once}
 
 -- ---- the start
@@ -244,9 +244,11 @@ module _ (x : Runs) where
 
 -- ---- a start that ends the program at once
 
--- what `bad-start` and `ends-at-once` say of it
+-- what `bad-start` and `ends-at-once` say of it, and `stops-in-the-start`
 abbrev pub OnceSo : AtOnce → Type 0
-OnceSo x = told (startedBy (x .begins)) .event ≡ (if x .isOnBad then 14 else 11)
+OnceSo x =
+    let event : ℕ = if x .isOnBad then 14 else 11 in
+    (told (startedBy (x .begins)) .event ≡ event) × ShowsStop (startedBy (x .begins)) event (x .begins .line)
 
 module _ (x : AtOnce) (ok : AllTrue (atOnce x)) where
   abbrev r : Begins
@@ -276,8 +278,16 @@ module _ (x : AtOnce) (ok : AllTrue (atOnce x)) where
 
   pub once-applies : OnceSo x
   unfolding atOnce begins
-  once-applies = go (x .isOnBad) refl
+  once-applies = (go (x .isOnBad) refl, shows)
     where
+      shows : ShowsStop (startedBy r) (if x .isOnBad then 14 else 11) (r .line)
+      shows =
+          stop-so _ (if x .isOnBad then 14 else 11) 0 (r .line) (tests 5) λ stop is ends at-tick line.
+          let told-so : stopReport (programOf once) (r .line) 0 ≡ passed (hasStopped stop) =
+          ap (λ (h : Held). stopReport (h .program) (r .line) 0) (at-start r .held) ∙ is in
+          let shown = stops-in-the-start once once-so 0 stop told-so at-tick .1 in
+          subst (λ v. ShowsStop (startedBy r) v (r .line)) ends (subst (ShowsStop (startedBy r) (stop .event)) line shown)
+
       program : after unpowered (before r) .program ≡ goes (r .before) .last .held .program
       program = ap (λ (h : Held). h .program) (at-start r .held)
 

@@ -21,7 +21,8 @@ returns c =
     let args = c .before .before .before .before .before .before .before .args in
     let pre = c .before .before .before .before .before .before .before .pre in
     let new = c .before .before .before .before .new in
-    let whole = told-whole _ _ _ pre (ap (λ n. take n (args .block .now)) (new .ensures .0)) (c .before .before .told .ensures) in
+    let the-told = c .before .before .told in
+    let whole = told-whole _ _ _ pre (ap (λ n. take n (args .block .now)) (new .ensures .0)) (the-told .ensures) in
     (whole .1 ∙ new .ensures .1, whole .0)
 
 pub told-whole-spec : {M : Type 1} → statement M
