@@ -301,6 +301,9 @@ WRITTEN = [
     ("written_006", program("S5 S20 F1x2 S40 S30 S20 S10 F1x3 N1 S0"), "0 100000",
      "006 125 007 002\nStopped after 12.5 s on line 007 (F10003): counter 1 was still in use by the For on line 002. Give the inner "
      "loop another counter.\n"),
+    ("written_006_crossing", program("F2x2 F1x3 S1 N2 N1 S0"), "0 100000",
+     "006 1 001 001\nStopped after 0.1 s on line 001 (F10003): counter 1 was still in use by the For on line 001. Two loops cross: end "
+     "the inner one before the outer one.\n"),
     ("written_007", program("S10 F3x12 S0"), "0 100000",
      "007 10 001 3\nStopped after 1.0 s on line 001 (F30012): no Next of counter 3 stands on a later line. Write N3 on the line where "
      "the loop ends.\n"),
