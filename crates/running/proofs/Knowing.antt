@@ -4,7 +4,7 @@ use Prim.Native.Nat.{ℕ, _+_, _≤_, _<_}
 use native.Mathlib.Omega.{arith}
 use mathlib.Core.Path.{_≡_, refl, sym, ap, subst, _∙_}
 use mathlib.Core.Logic.{_≢_}
-use mathlib.Core.Bool.{true, true≢false}
+use mathlib.Core.Bool.{true, false, true≢false}
 use mathlib.Core.List.{List, [], _∷_}
 use lib.ListN.{length, getD, set}
 use lib.Seq.{getD-set-same, getD-set-other}
@@ -20,10 +20,14 @@ use Rattle.lines.specs.Loops.{nextOf, nextFor}
 use Rattle.lines.proofs.Pairs.{next-of, begins, next-after}
 use Rattle.running.specs.declared.Counter.{Counter}
 use Rattle.running.specs.declared.Turn.{Turn}
-use Rattle.running.specs.Running.{isForOrNext, runLine}
+use Rattle.running.specs.declared.Run.{Run}
+use Rattle.running.specs.declared.Ran.{Ran}
+use Rattle.running.specs.declared.How.{How}
+use Rattle.running.specs.declared.How.the-variants.{Holds, Ends, GoesOn}
+use Rattle.running.specs.Running.{isForOrNext, runLine, step, stops, rests, follow, runDue}
 use Rattle.running.specs.Turn.{Leads}
 use Rattle.running.specs.Known.{IsKnown, Below, Tabled}
-use Rattle.running.proofs.Turns.{line-named}
+use Rattle.running.proofs.Turns.{line-named, none-left}
 
 -- ---- a line that is no For
 
@@ -113,3 +117,29 @@ module _ {p xs ys zs : List ℕ} (t : Tabled p xs ys zs) (k : ℕ) (lt : k < 200
   -- a counter is 1 to 4
   pub most-at : getD xs k 0 ≤ 4
   most-at = omega (arith, named-at, line-named p k refl .most)
+
+-- ---- the last line of a call
+
+-- what a call leaves, where n lines are counted before it
+abbrev after : ℕ → Ran → Ran
+after n x = record { run = x .run; event = x .event; lines = n }
+
+follow-after : (h : How) (n : ℕ) (s : Run) → after n (follow h 0 s (λ t. rests 0 t)) ≡ follow h n s (λ t. rests n t)
+follow-after Holds n s = refl
+follow-after (Ends e) n s = refl
+follow-after GoesOn n s = refl
+
+module _ (p : List ℕ) (r : Run) (n : ℕ) {c : ℕ} (names : c ≡ counterOf (lineAt p (r .line))) where
+  -- a For or a Next, and no more may be run
+  pub last-over : c ≢ 0 → stops 13 n r ≡ runDue p 0 n r
+  unfolding runDue
+  last-over some = rw (line-named p (r .line) refl .counted (λ none. some (names ∙ none)))
+
+  after-last : isForOrNext (lineAt p (r .line)) ≡ false → after n (runDue p 0 0 r) ≡ runDue p 0 n r
+  unfolding runDue
+  after-last not = rw not (follow-after (step p r .how) n (step p r .run))
+
+  -- any other line ends the call, however many may be run
+  pub last-other : {x : Ran} → c ≡ 0 → x ≡ runDue p 400 0 r → after n x ≡ runDue p 0 n r
+  last-other none is =
+      ap (after n) (is ∙ sym (none-left p r 0 refl (sym names ∙ none) 400)) ∙ after-last (line-named p (r .line) refl .uncounted (sym names ∙ none))

@@ -3,9 +3,10 @@
 ghost use mathlib.Core.Path.{_≡_};
 ghost use mathlib.Core.Bool.{true};
 ghost use Prim.Native.Nat.{_<_};
-ghost use Rattle.lines.specs.Program.{IsProgram};
+ghost use Rattle.lines.specs.Program.{IsProgram, lineAt};
 ghost use Rattle.lines.specs.Loops.{nextFor};
-ghost use Rattle.lines.specs.Line.{countOf};
+ghost use Rattle.lines.specs.Line.{counterOf, countOf};
+ghost use Rattle.running.specs.Running.{runDue};
 ghost use Rattle.running.specs.Invariant.{RunInvariant};
 ghost use Rattle.running.specs.Due.{Due};
 ghost use Rattle.running.specs.Known.{Known as IsTable, Tabled};
@@ -67,6 +68,25 @@ pub fn known_of(p: &[u8]) -> Table
     }
 }
 
+// The last line of a call, after n that counted, and the counter that it names. By `run_due`, which the box calls too: `last_due` has one
+// caller, or the box's stack grows.
+fn last_known(run: Run, p: &[u8], counter: u8, n: u16) -> Ran
+    requires { ⌜ IsProgram (now p) × (run .on ≡ true) × (RunInvariant run) × (counter ≡ counterOf (lineAt (now p) (run .line))) ⌝ }
+    ensures ran { λ r. ⌜ r ≡ runDue (now (p .entry)) 0 n run ⌝ }
+{
+    if 0 < counter {
+        return run.ended(13, n);
+    }
+    let ran = run.run_due(p);
+    let left = ran.run;
+    let event = ran.event;
+    Ran {
+        run: left,
+        event,
+        lines: n,
+    }
+}
+
 // Lines are run until one is held or ends the program, at most 400 of them For or Next. Where the program has ended, its loops may not be
 // freed yet: who asks why it ended finds in them what the counters held.
 pub fn due(start: Run, p: &[u8], counters: &[u8], nexts: &[u8], counts: &[u16]) -> Ran
@@ -98,5 +118,6 @@ pub fn due(start: Run, p: &[u8], counters: &[u8], nexts: &[u8], counts: &[u16]) 
             };
         }
     }
-    run.last_due(p, n)
+    let last = run.line as usize;
+    last_known(run, p, counters[last], n)
 }

@@ -153,19 +153,31 @@ loop-again c = (
       (turn-known .ensures _ (known-at (pre .3) _ (loop .inv .1 .inProgram) (if1 .left))) (c .match .keys2),
 )
 
-last-due-requires : tie.Need-last-due-requires Inv-loop μ-loop
-last-due-requires c κs = (c .before .before .before .before .before .before .pre .0, still (c .before .loop .inv .1))
+cast-last : tie.Need-cast-last Inv-loop μ-loop
+cast-last c = search needs
+
+shared-slice-read-last-known : tie.Need-shared-slice-read-last-known Inv-loop μ-loop
+shared-slice-read-last-known c =
+    let g = c .before .before .loop .inv .1 .inProgram in
+    let m = c .before .before .before .before .before .before .before .pre .3 .many .0 in
+    search needs
+
+last-known-requires : tie.Need-last-known-requires Inv-loop μ-loop
+last-known-requires c κs =
+    let pre = c .before .before .before .before .before .before .before .pre in
+    let going = c .before .before .loop .inv .1 in
+    (pre .0, going .on, still going, named-at (pre .3) _ (going .inProgram))
 
 returns-2 : tie.Need-returns-2 Inv-loop μ-loop
 returns-2 c =
-    let pre = c .before .before .before .before .before .before .before .pre in
-    let loop = c .before .before .loop in
+    let pre = c .before .before .before .before .before .before .before .before .pre in
+    let loop = c .before .before .before .loop in
     record {
-      ran = ap freed (c .last-due .ensures) ∙ due-freed _ _ _ _
+      ran = ap freed (c .last-known .ensures) ∙ due-freed _ _ _ _
           ∙ ⊎-elim (λ w. all-counted _ _ _ (w .left))
-          (λ w. none-left _ _ _ refl (sym (named-at (pre .3) _ (loop .inv .1 .inProgram)) ∙ w .2 .taken) _) (c .before .loop-test .came)
+          (λ w. none-left _ _ _ refl (sym (named-at (pre .3) _ (loop .inv .1 .inProgram)) ∙ w .2 .taken) _) (c .before .before .loop-test .came)
           ∙ sym (loop .inv .2);
-      last = λ six. absurd (last-never _ _ _ (sym (ap (λ (x : Ran). x .event) (c .last-due .ensures)) ∙ six));
+      last = λ six. absurd (last-never _ _ _ (sym (ap (λ (x : Ran). x .event) (c .last-known .ensures)) ∙ six));
     }
 
 pub due-spec : {M : Type 1} → statement M
@@ -192,5 +204,7 @@ due-spec =
     returns
     loop-less
     loop-again
-    last-due-requires
+    cast-last
+    shared-slice-read-last-known
+    last-known-requires
     returns-2)
