@@ -172,10 +172,11 @@ returns-2 : tie.Need-returns-2 Inv-loop μ-loop
 returns-2 c =
     let pre = c .before .before .before .before .before .before .before .before .pre in
     let loop = c .before .before .before .loop in
+    let loop-test = c .before .before .loop-test in
     record {
       ran = ap freed (c .last-known .ensures) ∙ due-freed _ _ _ _
           ∙ ⊎-elim (λ w. all-counted _ _ _ (w .left))
-          (λ w. none-left _ _ _ refl (sym (named-at (pre .3) _ (loop .inv .1 .inProgram)) ∙ w .2 .taken) _) (c .before .before .loop-test .came)
+          (λ w. none-left _ _ _ refl (sym (named-at (pre .3) _ (loop .inv .1 .inProgram)) ∙ w .2 .taken) _) (loop-test .came)
           ∙ sym (loop .inv .2);
       last = λ six. absurd (last-never _ _ _ (sym (ap (λ (x : Ran). x .event) (c .last-known .ensures)) ∙ six));
     }
