@@ -27,9 +27,8 @@ pub data Fact (p : List ℕ) (k o : ℕ) (s : Stop) : Type 0 where
   -- "for 008 whether some For of that counter stands above"
   forAbove : {c j x : ℕ} → s .event ≡ 8 → s .cause ≡ ForAbove true → lineAt p (s .line) ≡ Next c → j < s .line → lineAt p j ≡ For c x → Fact p k o s
   noFor : {c : ℕ} → s .event ≡ 8 → s .cause ≡ ForAbove false → lineAt p (s .line) ≡ Next c → ((j x : ℕ) → j < s .line → lineAt p j ≢ For c x) → Fact p k o s
-  -- "for 013 the State line last held": that which was held when the tick came, as 211 shows it; it is the last State of the lines gone through. Behind it come
-  -- the
-  -- 400 For and Next lines of that tick, and a 401st is due
+  -- "for 013 the State line last held": that which was held when the tick came, as 211 shows it; it is the last State of the lines gone through.
+  -- Behind it come the 400 For and Next lines of that tick, and a 401st is due
   stateHeld : {j n : ℕ} {gone : List ℕ} {last : Run} → s .event ≡ 13 → s .cause ≡ StateLine j → s .tick ≡ suc n → after p n (start p k o) .run .line ≡ j
       → Gone p (begun k o) 400 gone last → last .line ≡ s .line → isForOrNext (lineAt p (s .line)) ≡ true → LastState p j 400 gone → Fact p k o s
   -- "if any": there is none exactly if the start itself stopped; all lines gone through are For and Next lines, 400 of them, and a 401st is due

@@ -18,16 +18,14 @@ use Rattle.running.specs.Running.{atLine, withOutputs, waiting, isForOrN
 abbrev pub behind : ℕ → Run → Run
 behind outputs r = atLine (r .line + 1) (waiting 1 (withOutputs outputs r))
 
--- s comes next after r: a For or a Next goes on to it, one of the 400 of a call at most; or the line of r is a State and is held for its time, and s falls due
--- in
--- another call. Before r n For and Next lines were run in its call, before s m in its own.
+-- s comes next after r: a For or a Next goes on to it, one of the 400 of a call at most; or the line of r is a State and is held for its time,
+-- and s falls due in another call. Before r n For and Next lines were run in its call, before s m in its own.
 pub data FollowedBy (p : List ℕ) (n : ℕ) (r : Run) (m : ℕ) (s : Run) : Type 0 where
   goes : n < 400 → m ≡ suc n → step p r .how ≡ GoesOn → step p r .run ≡ s → FollowedBy p n r m s
   waits : {o t : ℕ} → m ≡ 0 → lineAt p (r .line) ≡ State o t → 0 < t → r .line < 199 → behind o r ≡ s → FollowedBy p n r m s
 
--- From b on, with which a call begins, the run has gone through the lines `gone`, the last of them first, and the line of s falls due, behind n For and Next
--- lines
--- of its call.
+-- From b on, with which a call begins, the run has gone through the lines `gone`, the last of them first, and the line of s falls due,
+-- behind n For and Next lines of its call.
 pub data Gone (p : List ℕ) (b : Run) : ℕ → List ℕ → Run → Type 0 where
   begins : {s : Run} → b ≡ s → Gone p b 0 [] s
   further : {n m : ℕ} {gone : List ℕ} {r s : Run} → Gone p b n gone r → FollowedBy p n r m s → Gone p b m (r .line ∷ gone) s
