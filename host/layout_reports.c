@@ -1,4 +1,4 @@
-/* layout_reports.c: the part of layout.c for the answers that need no record: how long a program takes, and why it stops. */
+/* layout_reports.c: the part of layout.c for what needs no record: how long a program takes, why it stops, and a plan as a program. */
 #include "layout.h"
 #include "nizhalepu.h"
 
@@ -66,7 +66,81 @@ static void test_stop(void) {
     }
 }
 
+/* ---- a plan */
+
+/* Rooms for a count and a length that are right again in 16 bits. */
+enum { NUMBERS = 65536 + 4, ROOM = 65536 + NIZHALEPU_PROGRAM, UNWRITTEN = 0xA5 };
+
+static uint32_t plan[NUMBERS];
+static uint8_t area[ROOM];
+
+static void check_plan(const char *name, size_t count, size_t length, unsigned refusal) {
+    memset(area, UNWRITTEN, sizeof area);
+    moment = name;
+    check("refusal", nizhalepu_plan(plan, count, area, length), refusal);
+}
+
+/* The first bytes of the area are these, and all others are as they were. */
+static void check_area(const uint8_t *bytes, size_t count) {
+    size_t others = 0;
+    for (size_t i = 0; i < count; i++)
+        check("a byte of the program", area[i], bytes[i]);
+    for (size_t i = count; i < sizeof area; i++)
+        others += area[i] != UNWRITTEN;
+    check("other bytes that were written", others, 0);
+}
+
+static void check_plan_refused(const char *name, size_t count, size_t length, unsigned refusal) {
+    check_plan(name, count, length, refusal);
+    check_area(area, 0);
+}
+
+static void check_plan_times(size_t which) {
+    const uint32_t time = plan[which];
+    for (unsigned bits = 20; bits < 32; bits++) {
+        plan[which] = time + (UINT32_C(1) << bits);
+        check_plan_refused("a time of many bits", 4, NIZHALEPU_PROGRAM, NIZHALEPU_BAD_TIME);
+    }
+    plan[which] = NIZHALEPU_TIME_MOST + 1;
+    check_plan_refused("a time that is too long", 4, NIZHALEPU_PROGRAM, NIZHALEPU_BAD_TIME);
+    plan[which] = 0;
+    check_plan_refused("a time of 0", 4, NIZHALEPU_PROGRAM, NIZHALEPU_BAD_TIME);
+    check_plan_refused("a time of 0, and too many moves", 68, NIZHALEPU_PROGRAM, NIZHALEPU_BAD_MOVES);
+    plan[which] = time;
+}
+
+/* Each byte of words and times is another one, and what is right again in fewer bits is refused. 600,000 is 60 times 9,999 and 60 more. */
+static void test_plan(void) {
+    static const uint32_t move[] = {0x12345678, 600000, 0x9ABCDEF0, 0x1234};
+    static const uint8_t lines[] = {0x46, 1, 0,    60,   0,    0,    0,    0,    0x53, 0, 0x12, 0x34, 0x56, 0x78, 0x27, 0x0F,
+                                    0x4E, 1, 0,    0,    0,    0,    0,    0,    0x53, 0, 0x12, 0x34, 0x56, 0x78, 0,    60,
+                                    0x53, 0, 0x9A, 0xBC, 0xDE, 0xF0, 0x12, 0x34};
+    uint8_t want[NIZHALEPU_PROGRAM] = {0};
+    for (size_t i = 0; i < NUMBERS; i++)
+        plan[i] = move[i % 4];
+    for (size_t at = 0; at < sizeof want; at += 8)
+        want[at] = 0x53;
+    memcpy(want, lines, sizeof lines);
+    check_plan("a plan of one move", 4, sizeof want, NIZHALEPU_ACCEPTED);
+    check_area(want, sizeof want);
+    for (size_t n = 1; n < NIZHALEPU_MOVES_MOST; n++)
+        memcpy(want + n * sizeof lines, lines, sizeof lines);
+    check_plan("a plan of the most moves", 4 * NIZHALEPU_MOVES_MOST, sizeof want, NIZHALEPU_ACCEPTED);
+    check_area(want, sizeof want);
+    check_plan_refused("no move", 0, sizeof want, NIZHALEPU_BAD_MOVES);
+    check_plan_refused("a move and a part of one", 7, sizeof want, NIZHALEPU_BAD_MOVES);
+    check_plan_refused("a move too many", 68, sizeof want, NIZHALEPU_BAD_MOVES);
+    check_plan_refused("a count of 9 bits", 256 + 4, sizeof want, NIZHALEPU_BAD_MOVES);
+    check_plan_refused("a count of 17 bits", NUMBERS, sizeof want, NIZHALEPU_BAD_MOVES);
+    check_plan_refused("an area that is too short, and no move", 0, sizeof want - 1, NIZHALEPU_BAD_PROGRAM);
+    check_plan_refused("an area that is too long", 4, sizeof want + 1, NIZHALEPU_BAD_PROGRAM);
+    check_plan_refused("an area of 17 bits", 4, ROOM, NIZHALEPU_BAD_PROGRAM);
+    check_plan_times(1);
+    check_plan_times(3);
+}
+
 void test_reports(void) {
     test_duration();
     test_stop();
+    test_plan();
 }

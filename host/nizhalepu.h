@@ -3,8 +3,9 @@
  * Link with target/staticlib/libnizhalepu.a (x86-64), which `rt staticlib nizhalepu` proves and makes; all
  * that it may need of a C library is memcpy. The rules are those of document 01 and of document 02, items 1 (the
  * log as text), 2 (a loop of none), 3 (why a special command was not taken), 4 (a bad stored line), 5 (less
- * stack), 6 (how long a program takes), 7 (the first increment), 8 (what a gap tells) and 9 (why a program
- * stops); the Rattle source of these calls, with their contracts, is crates/nizhalepu/src/lib.rt.
+ * stack), 6 (how long a program takes), 7 (the first increment), 8 (what a gap tells), 9 (why a program stops)
+ * and 10 (an inclining plan as a program); the Rattle source of these calls, with their contracts, is
+ * crates/nizhalepu/src/lib.rt.
  *
  * Who owns what. The caller owns the record and every area. The library keeps no pointer, allocates
  * nothing, has no data of its own but constants and calls nothing back; each call ends.
@@ -13,9 +14,10 @@
  * - Keep one record. Hand it first to nizhalepu_power_on, which fills it whatever it held, and then to
  *   every other call as the call before left it: never an older copy, never one made up. The other calls
  *   ask nothing more of the record.
- * - Lend areas that do not overlap each other or the record, with at least as many bytes behind each
- *   pointer as its length says. A pointer is not null, even with length 0. A length may be wrong: the
- *   five calls, nizhalepu_duration and nizhalepu_explain refuse that, and nizhalepu_list then writes nothing.
+ * - Lend areas that do not overlap each other or the record, with at least as many bytes, of a plan as many
+ *   numbers, behind each pointer as its length says. A pointer is not null, even with length 0. A length may
+ *   be wrong: the five calls, nizhalepu_duration, nizhalepu_explain and nizhalepu_plan refuse that, and
+ *   nizhalepu_list then writes nothing.
  * - Alter neither the program area nor the log between calls. Every call still does what document 01
  *   says if it happens, but what the box then runs and tells is what the areas hold.
  * - Make one call at a time on one record.
@@ -267,6 +269,29 @@ struct nizhalepu_stop {
 };
 
 struct nizhalepu_stop nizhalepu_explain(const uint8_t *program, size_t program_length, uint64_t start, uint64_t limit);
+
+/* ---- an inclining plan as a program. It needs no record; the plan may be any numbers, of any count, and is only read;
+ * the program area may have any length, and all of it is written or nothing.
+ *
+ * A plan has 1 to NIZHALEPU_MOVES_MOST weight moves of four numbers each, one behind the other: the outputs while the
+ * weight is moved and the ship settles (output n is bit n-1), for how many ticks, the outputs while the reading is
+ * taken, and for how many ticks. Started at line 000 and not stopped, the program has these outputs at every tick,
+ * those in pauses not counted, and comes to its end, event 011 with all outputs off, at the sum of the times.
+ *
+ * Answers 0, or the first refusal that applies, and then every byte of the area is as it was. */
+
+enum {
+    /* NIZHALEPU_BAD_PROGRAM, 30, is the first */
+    NIZHALEPU_BAD_MOVES = 70, /* no move, more than NIZHALEPU_MOVES_MOST, or a last one of fewer than four numbers */
+    NIZHALEPU_BAD_TIME = 71   /* a time of 0, or above NIZHALEPU_TIME_MOST */
+};
+
+enum {
+    NIZHALEPU_MOVES_MOST = 16,
+    NIZHALEPU_TIME_MOST = 600000 /* ticks */
+};
+
+uint8_t nizhalepu_plan(const uint32_t *plan, size_t plan_count, uint8_t *program, size_t program_length);
 
 #ifdef __cplusplus
 }

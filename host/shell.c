@@ -4,6 +4,7 @@
 
 #include <errno.h>
 #include <fcntl.h>
+#include <inttypes.h>
 #include <poll.h>
 #include <signal.h>
 #include <stdio.h>
@@ -40,6 +41,13 @@ static _Noreturn void fail_on_call(const char *message, const char *argument)
     fprintf(stderr, "%s: %s '%.*s'\n", self, message, SHOWN, argument);
     fprintf(stderr, "%s: how to call it: %s %s\n", self, self, usage);
     exit(2);
+}
+
+_Noreturn void shell_wrong_line(uint64_t line, const char *what, const char *how)
+{
+    fprintf(stderr, "%s: line %" PRIu64 ": %s\n", self, line, what);
+    fprintf(stderr, "%s: %s\n", self, how);
+    exit(EXIT_FAILURE);
 }
 
 static bool is_standard_input(const char *name)

@@ -44,6 +44,12 @@ void shell_put(const void *bytes, size_t count);
 void shell_flush(void);
 
 /*
+ * Ends the program, with status 1, where what was read is no input of its: tells the line of the input and what is wrong there, and behind
+ * that how it is written. What was gathered is lost.
+ */
+_Noreturn void shell_wrong_line(uint64_t line, const char *what, const char *how);
+
+/*
  * An argument as a decimal number: one digit or more, and nothing else. Any number of them: what is above 18,446,744,073,709,551,615 is
  * that number, which so means "or more". False, and *number as it was, where the word is no number.
  */

@@ -14,5 +14,8 @@ int compare_durations(uint64_t programs, uint64_t seed, const char *path);
 int compare_ticking(uint64_t programs, uint64_t seed);
 /* `path` names a file that gets every question and what the proved library says to it, or is NULL. */
 int compare_explain(uint64_t programs, uint64_t seed, const char *path);
+/* `path` names a file that gets every plan and what the proved library makes of it, or is NULL. */
+int compare_plan(uint64_t plans, uint64_t seed, const char *path);
+int compare_carrying(uint64_t plans, uint64_t seed);
 
 #endif

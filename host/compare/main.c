@@ -6,7 +6,7 @@
 #include <string.h>
 #include <time.h>
 
-enum { BAD_USAGE = 2, USUAL_CALLS = 10000000, USUAL_PROGRAMS = 100000, USUAL_TICKING = 10000 };
+enum { BAD_USAGE = 2, USUAL_CALLS = 10000000, USUAL_PROGRAMS = 100000, USUAL_TICKING = 10000, USUAL_RUNNING = 2000 };
 
 static const char usage[] =
     "compare [--calls N] [--seed S] [--logs FILE]\n"
@@ -36,9 +36,20 @@ static const char usage[] =
     "                                one its length (two bytes, here and below high byte first), its bytes, start line and\n"
     "                                limit (eight bytes each), and the proved answer: refusal, event (a byte each), tick\n"
     "                                (four bytes), line, cause (a byte each), for python3 model/explain.py --check FILE\n"
+    "compare plan [--plans N] [--seed S] [--keep FILE]\n"
+    "                                random inclining plans and areas for their programs, some of them refused: every byte\n"
+    "                                of the area by the proved library and by the independent reading (N a hundred thousand\n"
+    "                                if not given); a difference prints the plan. FILE gets for every one the count of its\n"
+    "                                numbers (two bytes, here and below high byte first), the numbers (four each), the length\n"
+    "                                of the area (two), the proved refusal (a byte), 1 if the area is as it was (a byte), and\n"
+    "                                else its bytes, for python3 model/plan.py --check FILE\n"
+    "compare plan --running [N] [--seed S]\n"
+    "                                random plans (N two thousand if not given): the proved box runs their programs, by the\n"
+    "                                library and by the independent reading, and must have the plan's word at every tick, and\n"
+    "                                event 011 at the sum of its times\n"
     "compare --help                  this text\n"
-    "Exit status: 0 equal, 1 a difference, a class of calls, logs or programs never or seldom met or a stack over its limit,\n"
-    "2 bad usage or no FILE.\n";
+    "Exit status: 0 equal, 1 a difference, a class of calls, logs, programs or plans never or seldom met or a stack over\n"
+    "its limit, 2 bad usage or no FILE.\n";
 
 static int bad_usage(void)
 {
@@ -125,6 +136,31 @@ static int durations(int count, char **words)
     return ticking ? compare_ticking(programs, seed) : compare_durations(programs, seed, path);
 }
 
+/* The words behind `plan`. The number behind --running may be missing. */
+static int plan(int count, char **words)
+{
+    const char *path = NULL;
+    bool running = count > 2 && strcmp(words[2], "--running") == 0;
+    uint64_t plans = running ? USUAL_RUNNING : USUAL_PROGRAMS, seed = seed_of_clock(), given;
+    int first = running ? 3 : 2;
+    if (running && count > 3 && number(words[3], &given)) {
+        plans = given;
+        first++;
+    }
+    for (int i = first; i < count; i += 2) {
+        uint64_t *value = NULL;
+        if (i + 1 == count) return bad_usage();
+        if (strcmp(words[i], "--seed") == 0) value = &seed;
+        if (strcmp(words[i], "--plans") == 0 && !running) value = &plans;
+        if (strcmp(words[i], "--keep") == 0 && !running)
+            path = words[i + 1];
+        else if (value == NULL || !number(words[i + 1], value))
+            return bad_usage();
+    }
+    if (plans == 0) return bad_usage();
+    return running ? compare_carrying(plans, seed) : compare_plan(plans, seed, path);
+}
+
 int main(int count, char **words)
 {
     setvbuf(stdout, NULL, _IOLBF, 0);
@@ -137,5 +173,6 @@ int main(int count, char **words)
     if (count == 2 && strcmp(words[1], "limits") == 0) return compare_limits();
     if (count > 1 && strcmp(words[1], "durations") == 0) return durations(count, words);
     if (count > 1 && strcmp(words[1], "explain") == 0) return explain(count, words);
+    if (count > 1 && strcmp(words[1], "plan") == 0) return plan(count, words);
     return calls(count, words);
 }

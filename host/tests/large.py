@@ -1,14 +1,15 @@
 #!/usr/bin/env python3
-"""Zeros into a program, through a pipe and as a file that is named: time and peak memory.
+"""Zeros into a program, into plan lines of comment, through a pipe and as a file that is named: time and peak memory.
 
-    large.py [BYTES] NAME COMMAND...     so many zeros, or 1,000,000,000
+    large.py [BYTES] NAME COMMAND...     so many bytes, or 1,000,000,000
     large.py --constant NAME COMMAND...  32,000,000; status 1 where they take more memory than the first 65,536 (of explain, 1,600)
 
-NAME is bench, corners, trials, loglist, durations or explain, or that with -independent behind it; what it writes is compared with what it
-must. COMMAND is the program, or a script that runs it, or run with the name of the program. The file has no blocks on the disk.
+NAME is bench, corners, trials, loglist, durations, explain or plan, or that with -independent behind it; what it writes is compared with
+what it must. COMMAND is the program, or a script that runs it, or run with the name of the program. A file of zeros has no blocks on the
+disk.
 
 The peak is the VmHWM of Linux, which is the program's own; that of wait4 counts what the caller had before, too. On a pipe it is looked at
-when all zeros are taken and the pipe is still open. On a file it is looked at every millisecond, so that the last one is missed.
+when all bytes are taken and the pipe is still open. On a file it is looked at every millisecond, so that the last one is missed.
 """
 import fcntl
 import os
@@ -25,7 +26,8 @@ from shell_program import SAMPLES
 FIRST = 65536  # the longest log
 PROGRAM = 1600  # bytes of one, for durations: of zeros it has no end
 SECONDS = 600
-FILE_SLACK = SLACK + 1024  # kB that another run may take more; the zeros are some 31,000
+FILE_SLACK = SLACK + 1024  # kB that another run may take more; the bytes are some 31,000
+ZERO = b"\0"
 
 
 def sample_of(name):
@@ -33,13 +35,13 @@ def sample_of(name):
 
 
 def first_of(name):
-    """The first zeros: one that takes no more than so many bytes waits for its last one, and then ends."""
+    """The number of the first bytes: one that takes no more than so many waits for its last one, and then ends."""
     takes = sample_of(name).takes
     return takes - 1 if takes else FIRST
 
 
 def text_of(name, count):
-    """What a program writes for so many zeros."""
+    """What a program writes for so many bytes."""
     if name.removesuffix("-independent") == "durations":
         return b"E042\n" * (count // PROGRAM) + (b"E030\n" if count % PROGRAM else b"") + b"0\n"
     return sample_of(name).endless
@@ -87,20 +89,24 @@ def taken(writer, run):
     time.sleep(0.1)  # what was taken last is done with then
 
 
-def zeros(count, writer):
-    """True where they were all taken, and not the first of them alone."""
-    return subprocess.run(["head", "-c", str(count), "/dev/zero"], stdout=writer, stderr=subprocess.DEVNULL, check=False).returncode == 0
+def fill(name, count, writer):
+    """So many bytes of the program's filling. True where they were all taken, and not the first of them alone."""
+    filling = sample_of(name).filling
+    command = ["head", "-c", str(count), "/dev/zero"]
+    if filling != ZERO:  # a line, cut off where a piece ends: what comes next is still of that comment
+        command = ["bash", "-c", 'yes "$1" | head -c "$2"', "fill", filling.decode().rstrip("\n"), str(count)]
+    return subprocess.run(command, stdout=writer, stderr=subprocess.DEVNULL, check=False).returncode == 0
 
 
 def through_a_pipe(name, command, count):
-    """The seconds, and the peaks after the first zeros and after the last."""
+    """The seconds, and the peaks after the first bytes and after the last."""
     reader, writer = os.pipe()
     run = Run(command, reader)
     os.close(reader)
-    zeros(first_of(name), writer)
+    fill(name, first_of(name), writer)
     taken(writer, run)
     first = run.peaks()
-    whole = zeros(count - first_of(name), writer)
+    whole = fill(name, count - first_of(name), writer)
     taken(writer, run)
     last = run.peaks()
     os.close(writer)
@@ -114,7 +120,10 @@ def as_a_file(name, command, count):
     """The seconds, and the highest peaks that were seen."""
     highest = {}
     with tempfile.NamedTemporaryFile() as file:
-        file.truncate(count)
+        if sample_of(name).filling == ZERO:
+            file.truncate(count)
+        else:
+            fill(name, count, file)
         run = Run([*command, *sample_of(name).words, file.name], subprocess.DEVNULL)
         while run.process.poll() is None:
             for which, most in run.peaks().items():
@@ -143,9 +152,9 @@ def main(words):
         sys.exit(__doc__)
     name, command = words[0], words[1:]
     seconds, first, last = through_a_pipe(name, command, count)
-    print(f"{name}: {count:,} zeros through a pipe: {seconds:.2f} s; the peak is {told(first)} and at the end {told(last)}")
+    print(f"{name}: {count:,} bytes through a pipe: {seconds:.2f} s; the peak is {told(first)} and at the end {told(last)}")
     named_seconds, highest = as_a_file(name, command, count)
-    print(f"{name}: {count:,} zeros as a file: {named_seconds:.2f} s; the peak is {told(highest)}")
+    print(f"{name}: {count:,} bytes as a file: {named_seconds:.2f} s; the peak is {told(highest)}")
     if held:
         constant(first, last, "on a pipe")
         for program, most in by_program(first).items():

@@ -4,7 +4,8 @@
     shell.py --list [NAME]        names the cases, or those of the program NAME
     shell.py CASE NAME COMMAND... one of them, on the program NAME that is run by these words
 
-NAME is bench, corners, trials, loglist, durations or explain, or that with -independent behind it: its messages and its status go by it.
+NAME is bench, corners, trials, loglist, durations, explain or plan, or that with -independent behind it: its messages and its status go by
+it.
 COMMAND is the program, or a script that runs it, or run with the name of the program. Status 0 if the case passes.
 """
 import sys

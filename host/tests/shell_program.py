@@ -20,6 +20,7 @@ from explain_cases import END, refused, stopped
 from explain_cases import program as stored_program
 from loglist_cases import ONE as LOG
 from loglist_cases import ONE_LINE
+from plan_cases import program as planned
 from programs import SECONDS, Talk, equal, shown
 
 FOLDER, MISSING = "Is a directory", "No such file or directory"
@@ -35,9 +36,10 @@ class Sample(NamedTuple):
     nothing: bytes  # the output for an empty input
     most: int  # so many files can be named; 0 where there is no limit
     takes: int = 0  # so many bytes of input are read at most; 0 where there is no limit
-    endless: bytes = b""  # the output where there are as many
+    endless: bytes = b""  # the output where there are as many; for large.py, that for its bytes
     words: tuple = ()  # the arguments before the first file
     usage: str = "[FILE]"
+    filling: bytes = b"\0"  # what large.py repeats: an input of any length
 
     def unfinished(self):
         """Two inputs behind which more is read; all output for them is `answer`, where no more can be read."""
@@ -56,6 +58,10 @@ SAMPLES = {
     # from line 001: a start at 000 would stop on a Bad line
     "explain": Sample(STOPS, b"", stopped("011 5 002 -", END).encode(), STOPS[:17], NO_PROGRAM, NO_PROGRAM, 1, 1601, NO_PROGRAM,
                       ("1", "50"), "[START [LIMIT [FILE]]]"),
+    # without a line end, which would be an end of input where a terminal is at the start of a line
+    "plan": Sample(b"00000001 5 00000002 3", b"", planned("S00000000010005 S00000000020003"), b"\n00000004 1 00000008 2",
+                   planned("S00000000010005 S00000000020003 S00000000040001 S00000000080002"), b"E070\n", 1, endless=b"E070\n",
+                   usage="[--check] [FILE]", filling=b"# 00000001 1 00000002 1\n"),
 }
 
 

@@ -4,3 +4,4 @@ pub mod Undisturbed
 pub mod ByTheRules
 pub mod Ends
 pub mod Stops
+pub mod Planned

@@ -12,6 +12,8 @@ use Rattle.lines.specs.Line.{isBad}
 use Rattle.lines.specs.Program.{lineAt}
 use Rattle.duration.specs.Report.{report}
 use Rattle.explanation.specs.Report.{report as stopReport}
+use Rattle.planner.specs.Plan.{movesOf, total, isWord}
+use Rattle.planner.specs.Planned.{planned}
 use Rattle.reader.specs.declared.Record.{Record}
 use Rattle.reader.specs.Reading.{reading}
 use Rattle.reader.specs.Words.{isOutsideGap}
@@ -24,7 +26,7 @@ use Rattle.demands.specs.Undisturbed.{isBroken, isPausing, isTouched}
 use Rattle.demands.specs.FirstSteps.{hasRead, hasWritten}
 use Rattle.demands.specs.Changes.{noneBegins}
 use Rattle.demands.specs.Walks.{Act, own, Ask, asking, madeOf, Trail, isAsSaid}
-use Rattle.demands.specs.Premises.{never, handsOn, counted, arrives, names, isGiven, isStop, isStill, isSome, goes, _behind_, oneMore}
+use Rattle.demands.specs.Premises.{never, handsOn, counted, arrives, names, isGiven, isStop, isStill, isProgramOf, isSome, goes, _behind_, oneMore}
 use Rattle.demands.specs.Premises.{seenAt, end, powersAt, noteAt, notesIn, lendsMoment, ruledAt}
 use Rattle.demands.specs.Replies.{ended}
 
@@ -123,6 +125,8 @@ pub data Ends : Type 0 where
   onBad : Ends
   -- it does not end there, and by the report of a stop it still runs
   goesOn : Ends
+  -- the tick ends it, and the program is what comes of a plan of these numbers
+  asPlanned : List ℕ → Ends
 
 unfoldable pub endsSo : Ends → Runs → List Bool
 endsSo onTime x =
@@ -136,6 +140,9 @@ endsSo onBad x =
     ∷ isBad (lineAt (b .last .held .program) (r .line + 1))
     ∷ isStop (stopReport (b .last .held .program) (x .begins .line) (x .count + 1)) 14 (x .count + 1) (r .line + 1)
     ∷ []
+endsSo (asPlanned ns) x =
+    let p = goes (x .begins .before) .last .held .program in
+    eqb (x .begins .line) 0 ∷ all isWord ns ∷ isProgramOf (planned ns p) p ∷ eqb (x .count + 1) (total (movesOf ns)) ∷ []
 endsSo goesOn x = isStill (stopReport (goes (x .begins .before) .last .held .program) (x .begins .line) (x .count)) ∷ []
 
 -- a start that ends the program at once, on its line: by the report of ticks, or on a Bad line, and by the report of a stop; what is read then is in `found`

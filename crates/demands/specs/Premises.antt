@@ -78,6 +78,11 @@ isSome (some m) n = eqb m n
 
 -- ---- what every script has
 
+-- what comes of a plan is this program
+abbrev pub isProgramOf : Res (List ℕ) → List ℕ → Bool
+isProgramOf (refused r) p = false
+isProgramOf (passed q) p = same q p
+
 -- the saved copy: end marks, and at 007 a Bad line
 abbrev pub copy : List ℕ
 copy = times 7 endMark ++ (times 1 (0xFF ∷ 0xFF ∷ 0xFF ∷ 0xFF ∷ 0xFF ∷ 0xFF ∷ 0xFF ∷ 0xFF ∷ []) ++ times 192 endMark)

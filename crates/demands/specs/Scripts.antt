@@ -6,7 +6,7 @@ use Rattle.controller.specs.Refusals.{powerOn, byte, tick, press, emptying}
 use Rattle.demands.specs.Exchanges.{change, gap}
 use Rattle.demands.specs.CallsTable.{lent}
 use Rattle.demands.specs.Walks.{Act, _⇒_, lends, gives, powers}
-use Rattle.demands.specs.Applying.{Back, Runs, onTime, onBad, goesOn, AtOnce, EndRead, First, Logs, Reads, Script}
+use Rattle.demands.specs.Applying.{Back, Runs, onTime, onBad, goesOn, asPlanned, AtOnce, EndRead, First, Logs, Reads, Script}
 use Rattle.demands.specs.Applying.{back, running, unpausing, ending, startShown, tickShown, firstRead, firstWrite, logging, listing, oneRead}
 
 -- ---- calls that are refused, where the log has 64 bytes and holds a record
@@ -136,6 +136,31 @@ byCommand = record {
   reply = "02";
   isOn = false;
   found = "^CR201^CR211^CR212^" ⇒ "00^80^004^011^" ∷ [];
+}
+
+-- the program of a plan: 2 ticks of word 1 and 1 of word 2, then 1 of word 0 and 2 of word 4, with a pause by the button and by 002
+abbrev pub byPlan : Runs
+byPlan = record {
+  begins = record {
+    before =
+        powers 64
+        ∷ "CW000S00000000010002^CWIS00000000020001^CWIS00000000000001^CWIS00000000040002^CW007S00000000000000^CW206FF^#CW210003" ⇒ "OK^OK^OK^OK^OK^OK^"
+        ∷ [];
+    start = byte 13;
+    line = 0;
+  };
+  later =
+      "CR206^#%##CR206^%#CR206^CW20600^CW000N1^" ⇒ "01^01^02^E005^E005^"
+      ∷ "#CR206^CW210002^#CR206^CW210004^#CR206^CR211^CR212^" ⇒ "00^OK^00^OK^04^003^012^"
+      ∷ gives (change 255 0 0xFF 0 ++ (change 0 1 1 0xFF ++ (change 1 5 2 1 ++ gap 6 2 4)))
+      ∷ "#CR206^c r 2 1%%1" ⇒ "04^"
+      ∷ [];
+  count = 5;
+  j = 211;
+  address = "211";
+  reply = "003";
+  isOn = false;
+  found = "^CR206^CR212^CR211^" ⇒ "004^00^011^004^" ∷ [];
 }
 
 -- started by 005 before a Bad line, with a pause by 002 and by the button
@@ -340,6 +365,7 @@ scripts =
     ∷ running onTime byCommand
     ∷ running onBad byParameter
     ∷ running goesOn byButton
+    ∷ running (asPlanned (1 ∷ 2 ∷ 2 ∷ 1 ∷ 0 ∷ 1 ∷ 4 ∷ 2 ∷ [])) byPlan
     ∷ unpausing byButton
     ∷ ending onEndMark
     ∷ ending onBadLine

@@ -1,5 +1,6 @@
 pub mod MachineValues
 pub mod Agreement
 pub mod Durations
+pub mod Plans
 pub mod Stops
 pub mod Explaining

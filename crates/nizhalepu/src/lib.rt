@@ -1,5 +1,5 @@
 // The record that the box's main loop keeps, the five calls that alter it where it stands, the text of an emptied log, how long a program
-// takes, and how and why one stops: a library for C.
+// takes, how and why one stops, and the program of an inclining plan: a library for C.
 // Each of the five calls the method of the box and stores the box that this returned. Definition: `call` of controller/specs/Calls.antt, as for the
 // by-value calls; specs/InRecord.antt for what stays in the record and what is said beside it. The header is host/nizhalepu.h.
 ghost use mathlib.Core.Path.{_≡_};
@@ -11,10 +11,12 @@ ghost use Rattle.controller.specs.Calls.{call};
 ghost use Rattle.controller.specs.Invariant.{Invariant};
 ghost use Rattle.controller.specs.Controller.{areas};
 ghost use Rattle.nizhalepu.specs.InRecord.{inRecord};
+ghost use Rattle.formats.specs.Checks.{refusalOf};
 ghost use Rattle.formats.specs.Writing.{Wrote};
 ghost use Rattle.reader.specs.Listing.{listingIn};
 ghost use Rattle.duration.specs.Report.{report};
 ghost use Rattle.explanation.specs.Report.{report as stopReport};
+ghost use Rattle.planner.specs.Planned.{planned, areaOf};
 ghost use Rattle.nizhalepu.specs.Durations.{durationOf};
 ghost use Rattle.nizhalepu.specs.Stops.{explainedOf};
 use calls::SwitchBox;
@@ -202,5 +204,18 @@ pub extern "C" fn nizhalepu_explain(program: &[u8], start: u64, limit: u64) -> E
                 cause: cause.number(),
             }
         }
+    }
+}
+
+// The program of an inclining plan, in the area; or the number of the refusal, and the area as it was.
+#[no_mangle]
+pub extern "C" fn nizhalepu_plan(plan: &[u32], program: &mut [u8]) -> u8
+    ensures refusal { λ r. ⌜ r ≡ refusalOf (planned (now (plan .entry)) (now (program .entry))) ⌝ }
+    ensures area { λ _. ⌜ now (program .exit) ≡ areaOf (planned (now (plan .entry)) (now (program .entry))) (now (program .entry)) ⌝ }
+{
+    let answer = planner::write(plan, program);
+    match answer {
+        planner::Answer::Written => 0,
+        planner::Answer::Refused(refusal) => refusal,
     }
 }

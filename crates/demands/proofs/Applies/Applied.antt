@@ -29,6 +29,9 @@ use Rattle.lines.specs.Searches as Searches
 use Rattle.lines.specs.Loops as LineLoops
 use Rattle.duration.specs.Loops as Loops
 use Rattle.duration.specs.Ticks as Ticks
+use Rattle.planner.specs.Plan as Plan
+use Rattle.planner.specs.Lines as PlanLines
+use Rattle.planner.specs.Planned as Planned
 use Rattle.reader.specs.Reading as Reading
 use Rattle.reader.specs.Layout as Layout
 use Rattle.reader.specs.Possible as Possible
@@ -56,11 +59,13 @@ unfolding failing scripts Applying.failingOf Premises.counted Applying.readsBack
     StopReport.report StopReport.stopTick StopReport.firstDue StopReport.causeOf StopReport.stopOf StopReport.outcome Ticking.after Moments.lastDue
     Report.report Report.reportTo Searches.firstOf Searches.someBefore LineLoops.endLine LineLoops.nextOf LineLoops.counterAt Loops.isInside Loops.crosses
     Loops.startsInOwn Loops.lacksNext Loops.lacksFor Loops.isTangled Loops.endsInside Ticks.past Ticks.summed Ticks.runTicks Ticks.idlesAt Ticks.idles
-    Ticks.hasBad Reading.ownWords Reading.isChangeRecord Reading.isGap Reading.joins Reading.canHold Reading.mayFollow Reading.isPossible Reading.mayStand
-    Reading.readAfter Reading.readingAs Reading.changesIn Layout.layoutOf Layout.recordIn Possible.inOneByte Possible.leadsTo Words.isOutsideGap
-    Record.recordOf Record.changeRecord Record.gapRecord Log.addChange Log.records Log.emptied Collecting.collect Collecting.sent Special.forbidden
-    Special.specialOf Command.addressIn Command.specialIn Command.dataIn Command.readCommand Command.writeCommand Command.commandIn Command.command
-    Controller.fresh Variables.lineOf Variables.isBadAt Variables.outputByte Variables.withOutputByte Variables.value Deeds.writing Deeds.raise Deeds.moved
-    Deeds.startAt Deeds.stop Deeds.load Deeds.save Deeds.special Deeds.write Deeds.legible Deeds.answer Deeds.byte Deeds.ticked Deeds.pressed Deeds.emptyLog
-    Deeds.powerUp Refusals.lent Refusals.check Effects.finished Effects.startLine Effects.replaces Calls.does Calls.logged Calls.call
+    Ticks.hasBad Plan.movesOf Plan.total PlanLines.loopLines PlanLines.remainder PlanLines.linesFor PlanLines.moveLines PlanLines.planLines
+    PlanLines.programLines PlanLines.laid PlanLines.programOf Planned.planned Reading.ownWords Reading.isChangeRecord Reading.isGap Reading.joins
+    Reading.canHold Reading.mayFollow Reading.isPossible Reading.mayStand Reading.readAfter Reading.readingAs Reading.changesIn Layout.layoutOf
+    Layout.recordIn Possible.inOneByte Possible.leadsTo Words.isOutsideGap Record.recordOf Record.changeRecord Record.gapRecord Log.addChange Log.records
+    Log.emptied Collecting.collect Collecting.sent Special.forbidden Special.specialOf Command.addressIn Command.specialIn Command.dataIn
+    Command.readCommand Command.writeCommand Command.commandIn Command.command Controller.fresh Variables.lineOf Variables.isBadAt Variables.outputByte
+    Variables.withOutputByte Variables.value Deeds.writing Deeds.raise Deeds.moved Deeds.startAt Deeds.stop Deeds.load Deeds.save Deeds.special Deeds.write
+    Deeds.legible Deeds.answer Deeds.byte Deeds.ticked Deeds.pressed Deeds.emptyLog Deeds.powerUp Refusals.lent Refusals.check Effects.finished
+    Effects.startLine Effects.replaces Calls.does Calls.logged Calls.call
 scripts-pass = refl

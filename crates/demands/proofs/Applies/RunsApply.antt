@@ -6,6 +6,7 @@ use mathlib.Core.List.{List, [], _∷_, _++_}
 use mathlib.Core.Option.{some}
 use Prim.Native.Nat.{ℕ, _+_}
 use native.Mathlib.Omega.{arith}
+use lib.ListN.{length}
 use lib.Dec.{eqb}
 use borrow.Author.Tests.{eqb-true, leb-true, ltb-true, not-true}
 use Rattle.formats.specs.Checks.{if_then_else_, text, passed, all}
@@ -18,6 +19,9 @@ use Rattle.running.specs.Running.{ticks, tick}
 use Rattle.running.specs.Running as Running
 use Rattle.duration.specs.Report.{report}
 use Rattle.explanation.specs.Report.{hasStopped, report as stopReport}
+use Rattle.planner.specs.Plan.{movesOf, total, wordAt}
+use Rattle.planner.specs.Lines.{planLines}
+use Rattle.planner.specs.Planned.{planned}
 use Rattle.controller.specs.Controller.{Areas}
 use Rattle.controller.specs.Refusals.{tick as tickCall}
 use Rattle.demands.specs.Histories.{Made, ticking, Held, unpowered, after, HandsOn, AllHandOn}
@@ -28,7 +32,7 @@ use Rattle.demands.specs.Started.{Course, Started, programOf, startOf, c
 use Rattle.demands.specs.Undisturbed.{Unbroken, isBroken, isPausing}
 use Rattle.demands.specs.Walks.{Ask, asking, asksOf, setOut, madeOf, noteBy, Trail, trail}
 use Rattle.demands.specs.Premises.{copy, goes, _behind_, oneMore, end, handsOn, never, ruledAt, isGiven}
-use Rattle.demands.specs.Applying.{Begins, begins, Runs, runs, onTime, onBad, goesOn, Ends, endsSo, AtOnce, atOnce, pausesNot}
+use Rattle.demands.specs.Applying.{Begins, begins, Runs, runs, onTime, onBad, goesOn, asPlanned, Ends, endsSo, AtOnce, atOnce, pausesNot}
 use Rattle.demands.proofs.History.Telling.{after-more, told-more}
 use Rattle.demands.proofs.Applies.Walked.{
   calls,
@@ -46,6 +50,7 @@ use Rattle.demands.proofs.Applies.Walked.{
   given-so,
   stop-so,
   still-so,
+  program-so,
   some-so,
   AllTrue,
   nth,
@@ -53,6 +58,7 @@ use Rattle.demands.proofs.Applies.Walked.{
 }
 use Rattle.demands.proofs.Runs.ByTheRules.{runs-by-the-rules, outputs-by-the-rules, ends-by-the-rules, pauses-only}
 use Rattle.demands.proofs.Runs.Stops.{runs-until-then, stops-as-explained, stops-in-the-start, runs-as-explained}
+use Rattle.demands.proofs.Runs.Planned.{outputs-as-planned, ends-as-planned}
 use Rattle.demands.proofs.Runs.Ends.{bad-start, bad-tick, runs-as-long, ends-on-time, ends-at-once}
 
 -- ---- the start
@@ -142,11 +148,15 @@ module _ (x : Runs) where
       × (told (now ++ (ticking t ∷ [])) .run ≡ tick (after unpowered p .program) ruledNow .run)
       × ReadOf now (x .j) (madeOf end (l .last) .areas)
 
-  -- what `runs-as-long` and `ends-on-time` say, `bad-tick` with `runs-until-then` and `stops-as-explained`, and `runs-as-explained`
+  -- what `runs-as-long` and `ends-on-time` say, `bad-tick` with `runs-until-then` and `stops-as-explained`, `runs-as-explained`, and
+  -- `outputs-as-planned` and `ends-as-planned`
   abbrev pub EndsSo : Ends → Type 0
   EndsSo onTime = let gone = told (now ++ (ticking t ∷ [])) in (told now .run .on ≡ true) × (gone .event ≡ 11) × (gone .run .on ≡ false)
   EndsSo onBad = let gone = now ++ (ticking t ∷ []) in (told gone .event ≡ 14) × (told now .run .on ≡ true) × ShowsStop gone 14 (ruledNow .line + 1)
   EndsSo goesOn = told now .run .on ≡ true
+  EndsSo (asPlanned ns) =
+      let gone = now ++ (ticking t ∷ []) in
+      (outputs now ≡ wordAt (movesOf ns) (x .count)) × (outputs gone ≡ 0) × ShowsStop gone 11 (length (planLines (movesOf ns)))
 
   module _ (ok : AllTrue (runs x)) where
     at : (i : ℕ) → nth i (runs x) ≡ true
@@ -241,6 +251,14 @@ module _ (x : Runs) where
     ends-apply goesOn e =
         runs-as-explained c so (x .count)
         (ap (λ (h : Held). stopReport (h .program) (s .line) (x .count)) (at-start s .held) ∙ still-so _ (e .0)) (omega (arith, count-is))
+    ends-apply (asPlanned ns) e =
+        let first = eqb-true (s .line) 0 (e .0) in
+        let same-program = ap (λ (h : Held). h .program) (at-start s .held) in
+        let held = goes (s .before) .last .held .program in
+        let is : planned ns held ≡ passed (programOf c) = program-so (planned ns held) held (e .1 .1 .0) ∙ ap passed (sym same-program) in
+        let sum = eqb-true (x .count + 1) (total (movesOf ns)) (e .1 .1 .1 .0) in
+        let end = ends-as-planned c so first ns held (e .1 .0) is (ap (λ n. n + 1) count-is ∙ sum) t next in
+        (outputs-as-planned c so first ns held (e .1 .0) is (omega (arith, count-is)) ∙ ap (wordAt (movesOf ns)) count-is, end .1, end .2)
 
 -- ---- a start that ends the program at once
 

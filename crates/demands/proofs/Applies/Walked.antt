@@ -24,7 +24,8 @@ use Rattle.demands.specs.Undisturbed.{counts, unpaused}
 use Rattle.demands.specs.Changes.{begins, noneBegins}
 use Rattle.demands.specs.LentBytes.{lendBytes}
 use Rattle.demands.specs.Walks.{Lending, own, sized, anew, Ask, Walk, setOut, madeOf, nextBy, noteBy, Moment, wentOn, moment, trail, madeIn}
-use Rattle.demands.specs.Premises.{never, handsLent, handsOn, counted, arrives, names, isGiven, isStop, isStill, isSome, notesIn, lendsMoment}
+use Rattle.demands.specs.Premises.{never, handsLent, handsOn, counted, arrives, names, isGiven, isStop}
+use Rattle.demands.specs.Premises.{isStill, isProgramOf, isSome, notesIn, lendsMoment}
 use Rattle.demands.specs.Applying.{failingOf, failing, Script, testsOf}
 use Rattle.demands.proofs.History.Telling.{after-more, told-more}
 
@@ -220,6 +221,10 @@ stop-so (passed (hasStopped s)) e n k p so =
     let a = both-true _ _ p in
     let b = both-true _ _ (a .0) in
     so s refl (eqb-true _ _ (b .0)) (eqb-true _ _ (b .1)) (eqb-true _ _ (a .1))
+
+pub program-so : (r : Res (List ℕ)) (p : List ℕ) → isProgramOf r p ≡ true → r ≡ passed p
+program-so (refused x) p e = absurd (true≢false (sym e))
+program-so (passed q) p e = ap passed (same-equal q p e)
 
 pub still-so : (r : Res Outcome) → isStill r ≡ true → r ≡ passed stillRunning
 still-so (refused x) p = absurd (true≢false (sym p))

@@ -1,0 +1,12 @@
+pub mod Laying
+pub mod Moves
+pub mod Answers
+pub mod Found
+pub mod Words
+pub mod Shape
+pub mod Calm
+pub mod Passing
+pub mod Timing
+pub mod Refusing
+pub mod Planning
+pub mod Examples

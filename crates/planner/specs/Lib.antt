@@ -1,0 +1,5 @@
+pub mod Plan
+pub mod Lines
+pub mod Planned
+pub mod Reasons
+pub mod ByTheRule

@@ -1,0 +1,11 @@
+pub mod Feeding
+pub mod Fields
+pub mod Walking
+pub mod Closing
+pub mod LineEnds
+pub mod Storing
+pub mod Judging
+pub mod Exactly
+pub mod Examples
+pub mod Worth
+pub mod OneMeaning

@@ -1,0 +1,4 @@
+pub mod Text
+pub mod Faults
+pub mod Kept
+pub mod Reading
