@@ -39,6 +39,7 @@ STOPS = {
         'which command the history reads off the characters: `demands/Replies.accepted-exactly` says it in full, both ways',
     ('crates/duration/specs/Report.antt', 'report'): 'the report: the code is proved against it, and the theorems say what it answers',
     ('crates/explanation/specs/Report.antt', 'report'): 'the report of a stop, likewise',
+    ('crates/plantext/specs/Reading.antt', 'readerOf'): 'the reader of plans: the code is proved against it, and the theorems say what it reads',
     ('crates/reader/specs/Reading.antt', 'readingAs'): 'the reader of logs, likewise',
     ('crates/reader/specs/Listing.antt', 'listing'): 'the text of a log, likewise',
 }
@@ -47,6 +48,7 @@ WORDS = 'Nobody has to believe this'
 OF_LOGS = ('demands/Possible', 'demands/LogReads', 'demands/Exactly', 'demands/LogWords', 'reader/ReadBack', 'reader/Reasons')
 OF_DURATIONS = ('duration/Taking', 'duration/Refusing')
 OF_STOPS = ('demands/Stops', 'explanation/Explained', 'explanation/Refusing', 'nizhalepu/Explaining')
+OF_PLANS = ('demands/Planned', 'planner/Planning', 'planner/Words', 'planner/Refusing', 'plantext/Exactly', 'plantext/OneMeaning')
 OF_THE_CODE = ('calls/Outcome', 'calls/Kept', 'nizhalepu/Agreement')
 COMPUTED = ('demands/Worked', 'demands/Applied')
 # the modules of rows that the computed theorems speak of
@@ -345,12 +347,13 @@ def groups(reader):
     def of(modules):
         return stated_in(theorems(reader, [pair for pair in theorem_modules() if '/'.join(pair) in modules]))
 
-    others = OF_LOGS + OF_DURATIONS + OF_STOPS + OF_THE_CODE + COMPUTED
+    others = OF_LOGS + OF_DURATIONS + OF_STOPS + OF_PLANS + OF_THE_CODE + COMPUTED
     box = [name for name in map('/'.join, theorem_modules()) if name not in others]
     return [('The box', 'The theorems of `demands` over calls and what is seen of them.', of(box)),
             ('A log read back', 'The theorems of `reader`, and of `demands` on what a log tells; what they add.', of(OF_LOGS)),
             ('How long a program takes', 'The theorems of `duration`; what they add.', of(OF_DURATIONS)),
             ('Why a program stops', 'The theorems of `explanation`, and those of `demands` and `nizhalepu` over it; what they add.', of(OF_STOPS)),
+            ('A plan as a program', 'The theorems of `planner` and `plantext`, and those of `demands` over them; what they add.', of(OF_PLANS)),
             ('The code', 'The theorems of `calls` and `nizhalepu`, and the contracts of what is called from outside, the library and the programs '
              '`bench`, `durations` and `explain`; what they add.',
              itertools.chain(of(OF_THE_CODE), contracts(reader))),

@@ -7,6 +7,7 @@ pub mod Shape
 pub mod Calm
 pub mod Passing
 pub mod Timing
+pub mod Order
 pub mod Refusing
 pub mod Planning
 pub mod Examples

@@ -12,7 +12,7 @@ use Rattle.formats.proofs.Checks.{both-true, rule-holds, passed-same}
 use Rattle.formats.proofs.Refusals.{passed-all}
 use Rattle.lines.specs.Program.{isProgram}
 use Rattle.duration.specs.Report.{report}
-use Rattle.planner.specs.Plan.{movesOf, isTimed, isWord, IsPlan, AllProper, none, more, total}
+use Rattle.planner.specs.Plan.{movesOf, isTimed, isWord, areWords, IsPlan, AllProper, none, more, total}
 use Rattle.planner.specs.Lines.{planLines, programOf}
 use Rattle.planner.specs.Planned.{isCounted, planned}
 use Rattle.planner.specs.ByTheRule.{CarriesOut}
@@ -20,12 +20,8 @@ use Rattle.planner.proofs.Moves.{counted-is, timed-is}
 use Rattle.planner.proofs.Found.{lines-used}
 use Rattle.planner.proofs.Passing.{carries-out}
 use Rattle.planner.proofs.Timing.{reported}
-use Rattle.planner.proofs.Refusing.{cs, by-checks}
+use Rattle.planner.proofs.Order.{cs, by-checks}
 use Rattle.planner.proofs.Answers.{taken}
-
--- numbers of 32 bits, as they are lent
-abbrev pub areWords : List ℕ → Bool
-areWords ns = all isWord ns
 
 -- four for each move
 count-is : (ns : List ℕ) → length (movesOf ns) ≡ length ns / 4

@@ -18,6 +18,8 @@ use Rattle.planner.specs.Lines.{programOf}
 use Rattle.planner.specs.Planned.{isCounted, planned}
 use Rattle.planner.specs.Reasons.{Whole, OutOfRange, settles, reads, Reason, e030, e070, e071, place}
 use Rattle.planner.proofs.Moves.{counted-is, time-is}
+use Rattle.planner.proofs.Order as Order
+use Rattle.planner.proofs.Order.{by-checks}
 
 -- a refusal is named by its number
 abbrev itself : ℕ → ℕ
@@ -111,12 +113,8 @@ untimed-so ns (reads k room not) = untimed-at ns k 3 room (inr refl) not
 -- ---- the checks
 
 module _ (ns area : List ℕ) where
-  abbrev pub cs : List Check
-  cs = (isProgram area orElse 30) ∷ (isCounted ns orElse 70) ∷ (all isTimed (movesOf ns) orElse 71) ∷ []
-
-  pub by-checks : planned ns area ≡ inOrder cs (passed (programOf (movesOf ns)))
-  unfolding planned inOrder
-  by-checks = refl
+  abbrev cs : List Check
+  cs = Order.cs ns area
 
   reason-at : (i r : ℕ) → i < 3 → checkAt cs i ≡ refused r → Reason ns area r
   reason-at zero r lt fails = let f = rule-fails _ 30 fails in e030 (f .1) (eqb-false (length area) 1600 (f .0))
@@ -157,15 +155,15 @@ module _ (ns area : List ℕ) where
   -- "in order": a plan is refused with a number only if the reason of that number holds, and none before it does;
   pub refused-first : (r : ℕ) → planned ns area ≡ refused r → First place (Reason ns area) r
   refused-first r is =
-      let f = told-first worded (programOf (movesOf ns)) r (sym by-checks ∙ is) in subst (First place (Reason ns area)) (f .numbered) (f .first)
+      let f = told-first worded (programOf (movesOf ns)) r (sym (by-checks ns area) ∙ is) in subst (First place (Reason ns area)) (f .numbered) (f .first)
 
   -- and if so, it is refused with that number.
   pub first-refused : (r : ℕ) → First place (Reason ns area) r → planned ns area ≡ refused r
-  first-refused r f = by-checks ∙ first-told worded (programOf (movesOf ns)) r f
+  first-refused r f = by-checks ns area ∙ first-told worded (programOf (movesOf ns)) r f
 
   -- Where a reason holds, no program is written.
   pub reason-refuses : (r : ℕ) (p : List ℕ) → Reason ns area r → planned ns area ≡ passed p → ⊥
-  reason-refuses r p why is = passed-none worded (programOf (movesOf ns)) (sym by-checks ∙ is) r why
+  reason-refuses r p why is = passed-none worded (programOf (movesOf ns)) (sym (by-checks ns area) ∙ is) r why
 
   -- 0 is no refusal's number.
   pub zero-not-told : planned ns area ≡ refused 0 → ⊥

@@ -6,7 +6,7 @@ use mathlib.Core.Bool.{Bool, _&&_}
 use mathlib.Core.List.{List, [], _∷_}
 use lib.ListN.{length, getD}
 use lib.Dec.{leb, ltb}
-use Rattle.formats.specs.Checks.{if_then_else_}
+use Rattle.formats.specs.Checks.{if_then_else_, all}
 use Rattle.planner.specs.declared.Move.{Move}
 
 -- move k of a plan that is lent as numbers, four for each move in the paper's order
@@ -73,6 +73,10 @@ pub record Timed (m : Move) : Type 0 where
 -- "a 32-bit word"
 abbrev pub isWord : ℕ → Bool
 isWord w = ltb w (256 ^ 4)
+
+-- numbers of 32 bits, as they are lent
+abbrev pub areWords : List ℕ → Bool
+areWords ns = all isWord ns
 
 abbrev pub IsWord : ℕ → Type 0
 IsWord w = w < 256 ^ 4

@@ -14,7 +14,9 @@ use Rattle.plantext.specs.declared.Reader.{Reader}
 use Rattle.plantext.specs.Text.{OnLine, nothing, move, lineOf, Says, last, line}
 use Rattle.plantext.specs.Faults.{Wrong, last as lastWrong, here, later}
 use Rattle.plantext.specs.Kept.{room, kept}
-use Rattle.plantext.specs.Reading.{begin, withCr, mostLine, lineAfter, closed, letter, lineEnd, resolved, byteAfter, step, fed, ended}
+use Rattle.plantext.specs.Reading.{begin, withCr, lineAfter, closed, letter, lineEnd, resolved, byteAfter, step, fed, ended, readerOf}
+use Rattle.plantext.specs.Kept.{mostLine}
+use Rattle.plantext.specs.AtEnd.{IsRead, Said, IsTold, IsWrong, Fours}
 use Rattle.plantext.proofs.Walking.{Store, at, letters}
 use Rattle.plantext.proofs.Closing.{Closes, putAll, right-line, Told, told-some, told-closed, wrong-line}
 use Rattle.plantext.proofs.LineEnds.{line-read, last-read}
@@ -54,11 +56,6 @@ says-read st n (line l t ns ms are is rest) =
     )
     (says-read (putAll st ns) (lineAfter n) rest)
 
--- numbers come in fours, one four for each move
-pub record Fours (ns : List ℕ) : Type 0 where
-  pub moves : ℕ
-  pub many : length ns ≡ 4 * moves
-
 line-fours : {l ns : List ℕ} → OnLine l ns → Fours ns
 line-fours (nothing b c are rest) = record { moves = 0; many = refl }
 line-fours (move b₀ w b₁ s b₂ v b₃ r b₄ c x y z u are₀ is₀ are₁ is₁ are₂ is₂ are₃ is₃ are₄ rest) = record { moves = 1; many = refl }
@@ -70,18 +67,9 @@ fours (line l t ns ms are is rest) =
     let more = fours rest in
     record { moves = one .moves + more .moves; many = omega (arith, length-append ns ms, one .many, more .many) }
 
--- the reader at the end of a text
-abbrev pub readerOf : List ℕ → Reader
-readerOf t = ended (fed begin t)
-
--- numbers are read: no fault, all of them are counted, by moves, as far as there is room, and those that are kept stand in the moves that are counted
-pub record IsRead (r : Reader) (ns : List ℕ) : Type 0 where
-  pub fault : r .fault ≡ 0
-  pub count : 4 * r .count ≡ min (length ns) room
-  pub moves : take (4 * r .count) (r .moves) ≡ kept ns
-
 -- What the text says is read.
 pub said-so-read : (t ns : List ℕ) → Says t ns → IsRead (readerOf t) ns
+unfolding readerOf
 said-so-read t ns s =
     let st : Store = record { moves = replicate room 0; stored = 0 } in
     let end = says-read st 1 s in
@@ -153,12 +141,8 @@ wrong-told st n le (later l t ns m e are is rest) =
     rw (line-read l t (at st n 0) refl are, right-end (putAll st ns) n (letters (at st n 0) (lineOf l)) (right-line st n is))
     (subst (Told (ended (fed (at (putAll st ns) (lineAfter n) 0) t)) e) same (wrong-told (putAll st ns) (lineAfter n) (omega (arith, next)) rest))
 
--- a fault is told, and its line, the largest number standing for every larger one
-pub record IsTold (r : Reader) (n e : ℕ) : Type 0 where
-  pub fault : r .fault ≡ e
-  pub line : r .line ≡ min n mostLine
-
 begun-told : {t : List ℕ} {n e : ℕ} → Wrong t n e → Told (readerOf t) e (min (1 + (n - 1)) mostLine)
+unfolding readerOf
 begun-told w = wrong-told (record { moves = replicate room 0; stored = 0 }) 1 (omega arith) w
 
 -- What is wrong is told.
@@ -173,12 +157,6 @@ wrong-so-told t n e w =
 pub not-both : (t ns : List ℕ) (n e : ℕ) → Says t ns → Wrong t n e → ⊥
 not-both t ns n e s w = true≢false (sym (eq-eqb (readerOf t .fault) 0 (said-so-read t ns s .fault)) ∙ told-some (begun-told w))
 
--- numbers that are read are what the text says
-pub record Said (t : List ℕ) : Type 0 where
-  pub numbers : List ℕ
-  pub says : Says t numbers
-  pub read : IsRead (readerOf t) numbers
-
 -- What is read without a fault is what the text says.
 pub read-so-said : (t : List ℕ) → readerOf t .fault ≡ 0 → Said t
 read-so-said t e = go (judged-text t)
@@ -186,12 +164,6 @@ read-so-said t e = go (judged-text t)
     go : JudgedText t → Said t
     go (says ns s) = record { numbers = ns; says = s; read = said-so-read t ns s }
     go (fails n c w) = absurd (true≢false (sym (eq-eqb (readerOf t .fault) 0 e) ∙ told-some (begun-told w)))
-
--- the fault that is told is wrong with the text
-pub record IsWrong (t : List ℕ) : Type 0 where
-  pub line : ℕ
-  pub wrong : Wrong t line (readerOf t .fault)
-  pub told : readerOf t .line ≡ min line mostLine
 
 -- A fault that is told is wrong with the text, on the line that is told.
 pub told-so-wrong : (t : List ℕ) → (readerOf t .fault ≡ 0 → ⊥) → IsWrong t

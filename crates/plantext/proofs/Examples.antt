@@ -9,7 +9,7 @@ use Rattle.plantext.specs.declared.Reader.{Reader}
 use Rattle.plantext.specs.Text.{hexValue}
 use Rattle.plantext.specs.Reading.{base, digitsAfter, valueAfter, character, wrong, missing, movesAfter, storedAfter, fieldAfter, fieldEnd, closed}
 use Rattle.plantext.specs.Reading.{hash, letter, lineAfter, lineEnd, resolved, byteAfter, step, fed, ended}
-use Rattle.plantext.proofs.Exactly.{readerOf}
+use Rattle.plantext.specs.Reading.{readerOf}
 
 -- The digits of either case, and their neighbours among the characters.
 pub digits-valued : map hexValue (text "0123456789ABCDEFabcdef/:@G`g")
@@ -85,5 +85,5 @@ failing n (t gives s ∷ more) = if same (seen (readerOf t)) s then failing (suc
 -- None does.
 pub examples-pass : failing 1 examples ≡ []
 unfolding text times hexValue base digitsAfter valueAfter character wrong missing movesAfter storedAfter fieldAfter fieldEnd closed hash letter lineAfter
-    lineEnd resolved byteAfter step fed ended
+    lineEnd resolved byteAfter step fed ended readerOf
 examples-pass = refl

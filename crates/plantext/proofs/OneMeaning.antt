@@ -98,7 +98,7 @@ no-move b c b′ f t are rest are′ is e =
     true≢false (sym starts ∙ ap (headIs isPlain) (sym tails) ∙ over-head c (closing-over [] c refl rest))
 
 -- A line says one list of numbers.
-pub one-line : {l l′ ns ms : List ℕ} → OnLine l ns → OnLine l′ ms → l ≡ l′ → ns ≡ ms
+one-line : {l l′ ns ms : List ℕ} → OnLine l ns → OnLine l′ ms → l ≡ l′ → ns ≡ ms
 one-line (nothing b c are rest) (nothing b′ c′ are′ rest′) e = refl
 one-line (nothing b c are rest) (move b₀ w b₁ s b₂ v b₃ r b₄ c′ x y z u are₀ is₀ are₁ is₁ are₂ is₂ are₃ is₃ are₄ rest′) e =
     absurd (no-move b c b₀ w _ are rest are₀ (word-field is₀ (between-over b₁ _ are₁)) (e ∙ parts b₀ w b₁ s b₂ v b₃ r b₄ c′))

@@ -16,3 +16,7 @@ capped n = min n most
 
 unfoldable pub kept : List ℕ → List ℕ
 kept ns = take room (map capped ns)
+
+-- the largest number of eight bytes stands for every larger line
+abbrev pub mostLine : ℕ
+mostLine = 18446744073709551615

@@ -2,3 +2,4 @@ pub mod Text
 pub mod Faults
 pub mod Kept
 pub mod Reading
+pub mod AtEnd

@@ -1,4 +1,4 @@
--- Nobody has to believe this: it says how the code goes, one character after the other. Text and Faults say what it must come to.
+-- How the code reads a text, one character after the other. Text and Faults say what it must come to, and a reader need not hold this against the paper.
 use Prim.Native.Nat.{ℕ, _+_, _*_, _/_, _%_, min}
 use mathlib.Core.Bool.{Bool, true, false}
 use mathlib.Core.List.{List, [], _∷_}
@@ -7,7 +7,7 @@ use lib.Dec.{leb, ltb, eqb}
 use Rattle.formats.specs.Checks.{if_then_else_}
 use Rattle.plantext.specs.declared.Reader.{Reader}
 use Rattle.plantext.specs.Text.{isBlank, isHash, hexValue}
-use Rattle.plantext.specs.Kept.{most, room}
+use Rattle.plantext.specs.Kept.{most, room, mostLine}
 
 -- ---- the reader's parts
 
@@ -103,10 +103,6 @@ letter c r =
     if eqb (r .fault) 0 then (if isBlank c then fieldEnd r else if isHash c then hash r else character c r)
     else r
 
--- the largest number of eight bytes stands for every larger line
-abbrev pub mostLine : ℕ
-mostLine = 18446744073709551615
-
 unfoldable pub lineAfter : ℕ → ℕ
 lineAfter n = if ltb n mostLine then n + 1 else n
 
@@ -140,3 +136,7 @@ counted r = reader (r .moves) (r .stored) (r .stored / 4) (r .line) (r .fault) (
 
 unfoldable pub ended : Reader → Reader
 ended r = counted (closed (resolved r))
+
+-- the reader at the end of a text
+unfoldable pub readerOf : List ℕ → Reader
+readerOf t = ended (fed begin t)

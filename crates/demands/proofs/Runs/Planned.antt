@@ -14,11 +14,11 @@ use Rattle.running.specs.Running.{start}
 use Rattle.running.specs.Ticking as Ticking
 use Rattle.running.specs.Ticking.{EndsAfter}
 use Rattle.running.proofs.Reaching.{after-ticks, tick-after}
-use Rattle.planner.specs.Plan.{movesOf, total, wordAt}
+use Rattle.planner.specs.Plan.{movesOf, total, wordAt, areWords}
 use Rattle.planner.specs.Lines.{planLines}
 use Rattle.planner.specs.Planned.{planned}
 use Rattle.planner.specs.ByTheRule.{CarriesOut}
-use Rattle.planner.proofs.Planning.{areWords, carried-out}
+use Rattle.planner.proofs.Planning.{carried-out}
 use Rattle.controller.specs.Controller.{Areas}
 use Rattle.demands.specs.Histories.{ticking}
 use Rattle.demands.specs.Seen.{seen, outputs}
@@ -34,13 +34,10 @@ module _ (c : Course) (so : Started c) (first : c .line ≡ 0) (ns area : List �
   carries : CarriesOut (movesOf ns) (programOf c) (outputs (c .before))
   carries = carried-out ns area (programOf c) words is (outputs (c .before))
 
-  abbrev sum : ℕ
-  sum = total (movesOf ns)
-
   start-is : startOf c ≡ start (programOf c) 0 (outputs (c .before))
   start-is = ap (λ k. start (programOf c) k (outputs (c .before))) first
 
-  lasts : EndsAfter (programOf c) sum 11 (startOf c)
+  lasts : EndsAfter (programOf c) (total (movesOf ns)) 11 (startOf c)
   lasts = rw first (carries .ends)
 
   -- the outputs after so many ticks of the rules
@@ -51,40 +48,40 @@ module _ (c : Course) (so : Started c) (first : c .line ≡ 0) (ns area : List �
   ruled-few : (n : ℕ) → Ticking.after (programOf c) n (startOf c) .lines ≤ 2
   ruled-few n = subst (λ (x : Ran). Ticking.after (programOf c) n x .lines ≤ 2) (sym start-is) (carries .few n)
 
-  rule-runs : count c < sum → ruled c .on ≡ true
+  rule-runs : count c < total (movesOf ns) → ruled c .on ≡ true
   rule-runs lt = ap (λ (r : Run). r .on) (sym (after-ticks (programOf c) (count c) (startOf c))) ∙ lasts .before (count c) lt .on
 
   -- As long as fewer ticks than the sum of the times were taken unpaused, whatever the traffic and the pauses, the program runs,
-  pub runs-as-planned : count c < sum → told (now c) .run .on ≡ true
-  runs-as-planned = runs-so-long c so sum 11 lasts
+  pub runs-as-planned : count c < total (movesOf ns) → told (now c) .run .on ≡ true
+  runs-as-planned = runs-so-long c so (total (movesOf ns)) 11 lasts
 
   -- and the outputs are the plan's word at that tick.
-  pub outputs-as-planned : count c < sum → outputs (now c) ≡ wordAt (movesOf ns) (count c)
+  pub outputs-as-planned : count c < total (movesOf ns) → outputs (now c) ≡ wordAt (movesOf ns) (count c)
   outputs-as-planned lt =
       outputs-by-the-rules c so (rule-runs lt)
       ∙ ap (λ (r : Run). r .outputs) (sym (after-ticks (programOf c) (count c) (startOf c)))
       ∙ ruled-outputs (count c) ∙ carries .words (count c) lt
 
   -- A tick before the last raises no event;
-  pub no-event-before : count c + 1 < sum → (a : Areas) → Ticks c a → told (ticked c a) .event ≡ told (now c) .event
+  pub no-event-before : count c + 1 < total (movesOf ns) → (a : Areas) → Ticks c a → told (ticked c a) .event ≡ told (now c) .event
   no-event-before lt a t =
       let x = tick-after (programOf c) (count c) (startOf c) in
       ends-by-the-rules c so (rule-runs (omega arith)) a t .1
       ∙ ap (λ e. if eqb e 0 then told (now c) .event else e) (ap (λ (y : Ran). y .event) x ∙ lasts .before (count c + 1) lt .event)
 
-  module _ (last : count c + 1 ≡ sum) (a : Areas) (t : Ticks c a) where
+  module _ (last : count c + 1 ≡ total (movesOf ns)) (a : Areas) (t : Ticks c a) where
     -- with the last one event 011 comes: the program has ended, all outputs are off, and 212 and 211 show so.
     pub ends-as-planned : (told (ticked c a) .run .on ≡ false) × (outputs (ticked c a) ≡ 0)
         × ShowsStop (ticked c a) 11 (length (planLines (movesOf ns)))
     ends-as-planned =
-        let end = ends-there c so sum 11 lasts last a t in
+        let end = ends-there c so (total (movesOf ns)) 11 lasts last a t in
         let x = tick-after (programOf c) (count c) (startOf c) ∙ ap (λ n. Ticking.after (programOf c) n (startOf c)) last in (
           end .1,
           outputs-as-told (ticked c a)
               ∙ ap (λ (r : Run). r .outputs) (ends-by-the-rules c so (rule-runs (omega arith)) a t .0)
-              ∙ ap (λ (y : Ran). y .run .outputs) x ∙ ruled-outputs sum ∙ carries .off,
+              ∙ ap (λ (y : Ran). y .run .outputs) x ∙ ruled-outputs (total (movesOf ns)) ∙ carries .off,
           shows-stop (ticked c a) (end .1) 11 (length (planLines (movesOf ns))) (end .0)
-              (end .2 ∙ ap (λ (y : Ran). Ticking.after (programOf c) sum y .run .line) start-is ∙ carries .there),
+              (end .2 ∙ ap (λ (y : Ran). Ticking.after (programOf c) (total (movesOf ns)) y .run .line) start-is ∙ carries .there),
         )
 
   -- The start runs at most two For and Next lines, and so does every tick until then.
@@ -92,7 +89,7 @@ module _ (c : Course) (so : Started c) (first : c .line ≡ 0) (ns area : List �
   unfolding Ticking.after
   start-runs-few = let e = starts-by-the-rules c so .2 in let few = ruled-few 0 in omega arith
 
-  pub tick-runs-few : count c < sum → (a : Areas) → Ticks c a → seen (now c) (ticking a) .lines ≤ 2
+  pub tick-runs-few : count c < total (movesOf ns) → (a : Areas) → Ticks c a → seen (now c) (ticking a) .lines ≤ 2
   tick-runs-few lt a t =
       let e = ends-by-the-rules c so (rule-runs lt) a t .2 in
       let x = ap (λ (y : Ran). y .lines) (tick-after (programOf c) (count c) (startOf c)) in
