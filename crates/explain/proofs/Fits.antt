@@ -1,17 +1,14 @@
 -- The two lines always fit into the block of the program: nothing of them goes out before the rest.
 -- Assumes nothing.
-use Prim.Native.Nat.{ℕ, zero, suc, _+_, _/_, _≤_}
-use Prim.Native.String.{String}
+use Prim.Native.Nat.{ℕ, _/_}
 use native.Mathlib.Omega.{arith}
 use mathlib.Core.Bool.{Bool, true, false}
-use mathlib.Core.List.{List, [], _++_}
-use mathlib.Core.Path.{_≡_, ap, _∙_}
-use lib.ListN.{length, length-append}
+use mathlib.Core.List.{List, []}
+use mathlib.Core.Path.{_≡_}
+use lib.ListN.{length}
 use lib.Dec.{eqb, ltb}
 use Rattle.formats.specs.Checks.{text}
-use Rattle.formats.specs.Digits.{shown, width, decimal, errorText}
 use Rattle.formats.proofs.Checks.{if-case}
-use Rattle.formats.proofs.Characters.{length-shown}
 use Rattle.lines.specs.declared.Line.{Line}
 use Rattle.lines.specs.declared.Line.the-variants.{State, For, Next, Bad}
 use Rattle.lines.specs.Line.{counterOf}
@@ -19,67 +16,36 @@ use Rattle.lines.specs.Program.{lineAt}
 use Rattle.texts.proofs.Texts.{text-length}
 use Rattle.streams.specs.declared.Output.{Output}
 use Rattle.streams.specs.Gathering.{gathered, Follows}
+use Rattle.streams.proofs.Within.{Within, lit, one-within, both, room, decimal-within, digits-within, error-within, waits-whole}
 use Rattle.explanation.specs.declared.Answer.{Answer}
 use Rattle.explanation.specs.declared.Answer.the-variants.{Refused, Running, Stopped}
 use Rattle.explanation.specs.declared.Cause.{Cause}
 use Rattle.explanation.specs.declared.Cause.the-variants.{ForLine, Sought, ForAbove, StateLine, Nothing}
 use Rattle.explanation.specs.declared.Stop.{Stop}
 use Rattle.explain.specs.Telling.{causeField, fields, firstLine, seconds, readText, busyAdvice, aboveReason, plainReason, reason}
-use Rattle.explain.specs.Telling.{stopSentence, refusalSentence, runningSentence, sentence, lineEnd, twoLines}
-
--- a text of at most n characters
-record Within (n : ℕ) (xs : List ℕ) : Type 0 where
-  fits : length xs ≤ n
-
-lit : (s : String) → Within (length (text s)) (text s)
-lit s = record { fits = omega arith }
-
--- one text behind the other
-both : {m n : ℕ} {xs ys : List ℕ} → Within m xs → Within n ys → Within (m + n) (xs ++ ys)
-both {xs = xs} {ys = ys} a b = record { fits = omega (arith, length-append xs ys, a .fits, b .fits) }
-
--- room for more
-room : {m : ℕ} (n : ℕ) {xs : List ℕ} → Within m xs → m ≤ n → Within n xs
-room n a le = record { fits = omega (arith, a .fits) }
-
--- ---- numbers
-
-width-within : (n v : ℕ) → width n v ≤ n
-unfolding width
-width-within zero v = omega arith
-width-within (suc n) v = if-case (λ w. w ≤ suc n) (ltb v 10) (λ _. omega arith) (λ _. omega (arith, width-within n (v / 10)))
-
-decimal-within : (v : ℕ) → Within 20 (decimal v)
-decimal-within v = record { fits = omega (arith, length-shown 10 (width 20 v) v, width-within 20 v) }
-
-digits-within : (n v : ℕ) → Within n (shown 10 n v)
-digits-within n v = record { fits = omega (arith, length-shown 10 n v) }
+use Rattle.explain.specs.Telling.{stopSentence, refusalSentence, runningSentence, sentence, twoLines}
 
 seconds-within : (n : ℕ) → Within 22 (seconds n)
 unfolding seconds text
-seconds-within n = both (both (decimal-within (n / 10)) (lit ".")) (digits-within 1 n)
+seconds-within n = both (both (decimal-within (n / 10)) (lit ".")) (digits-within 10 1 n)
 
 -- ---- the first line
 
 cause-within : (c : Cause) → Within 3 (causeField c)
 unfolding text
-cause-within (ForLine k) = digits-within 3 k
-cause-within (Sought c) = room 3 (digits-within 1 c) (omega arith)
+cause-within (ForLine k) = digits-within 10 3 k
+cause-within (Sought c) = room 3 (digits-within 10 1 c) (omega arith)
 cause-within (ForAbove true) = lit "yes"
 cause-within (ForAbove false) = room 3 (lit "no") (omega arith)
-cause-within (StateLine k) = digits-within 3 k
+cause-within (StateLine k) = digits-within 10 3 k
 cause-within Nothing = room 3 (lit "-") (omega arith)
-
-error-within : (e : ℕ) → Within 4 (errorText e)
-unfolding errorText text
-error-within e = both (lit "E") (digits-within 3 e)
 
 fields-within : (s : Stop) → Within 32 (fields s)
 unfolding fields text
 fields-within s =
-    both (digits-within 3 (s .event))
+    both (digits-within 10 3 (s .event))
     (both (lit " ")
-    (both (both (decimal-within (s .tick)) (lit " ")) (both (digits-within 3 (s .line)) (both (lit " ") (cause-within (s .cause))))))
+    (both (both (decimal-within (s .tick)) (lit " ")) (both (digits-within 10 3 (s .line)) (both (lit " ") (cause-within (s .cause))))))
 
 first-within : (a : Answer) → Within 32 (firstLine a)
 unfolding text
@@ -107,11 +73,11 @@ above-within b c =
     if-case (Within 160) b
     (λ _. room 160
     (both (lit "counter ")
-    (both (digits-within 1 c)
+    (both (digits-within 10 1 c)
     (lit " was not in use, although a For of it stands above. Start at that For or above it, or take this Next out.")))
     (omega arith))
     (λ _. room 160
-    (both (lit "no For of counter ") (both (digits-within 1 c) (lit " stands above. Write one there, or take this Next out.")))
+    (both (lit "no For of counter ") (both (digits-within 10 1 c) (lit " stands above. Write one there, or take this Next out.")))
     (omega arith))
 
 plain-within : (e : ℕ) → Within 160 (plainReason e)
@@ -129,19 +95,19 @@ unfolding reason text
 reason-within (ForLine k) e line c =
     room 160
     (both (lit "counter ")
-    (both (digits-within 1 c)
-    (both (lit " was still in use by the For on line ") (both (digits-within 3 k) (both (lit ". ") (advice-within k line))))))
+    (both (digits-within 10 1 c)
+    (both (lit " was still in use by the For on line ") (both (digits-within 10 3 k) (both (lit ". ") (advice-within k line))))))
     (omega arith)
 reason-within (Sought n) e line c =
     room 160
     (both (lit "no Next of counter ")
-    (both (digits-within 1 n) (both (lit " stands on a later line. Write N") (both (digits-within 1 n) (lit " on the line where the loop ends.")))))
+    (both (digits-within 10 1 n) (both (lit " stands on a later line. Write N") (both (digits-within 10 1 n) (lit " on the line where the loop ends.")))))
     (omega arith)
 reason-within (ForAbove b) e line c = above-within b c
 reason-within (StateLine k) e line c =
     room 160
     (both (lit "more than 400 For and Next lines fell due in one tick, behind the State on line ")
-    (both (digits-within 3 k) (lit ". Put a State with a time above 0 into the loop.")))
+    (both (digits-within 10 3 k) (lit ". Put a State with a time above 0 into the loop.")))
     (omega arith)
 reason-within Nothing e line c = plain-within e
 
@@ -151,7 +117,7 @@ stop-within l s =
     both (lit "Stopped after ")
     (both (seconds-within (s .tick))
     (both (lit " s on line ")
-    (both (digits-within 3 (s .line))
+    (both (digits-within 10 3 (s .line))
     (both (lit " (") (both (read-within l) (both (lit "): ") (reason-within (s .cause) (s .event) (s .line) (counterOf l))))))))
 
 refusal-within : (e : ℕ) → Within 230 (refusalSentence e)
@@ -177,17 +143,11 @@ sentence-within p limit (Stopped s) = stop-within (lineAt p (s .line)) s
 
 -- ---- both
 
-end-within : Within 1 lineEnd
-end-within = record { fits = omega arith }
-
 lines-within : (p : List ℕ) (limit : ℕ) (a : Answer) → Within 264 (twoLines p limit a)
 unfolding twoLines
-lines-within p limit a = both (both (first-within a) end-within) (both (sentence-within p limit a) end-within)
+lines-within p limit a = both (both (first-within a) (one-within 10)) (both (sentence-within p limit a) (one-within 10))
 
 -- In a block of 512 bytes, of which none wait, what is told waits whole, and no write has failed.
 pub told-whole : (p : List ℕ) (limit : ℕ) (a : Answer) {o r : Output} {block block′ : List ℕ} → length block ≡ 512 → gathered o block ≡ []
     → Follows o block (twoLines p limit a) r block′ → (gathered r block′ ≡ twoLines p limit a) × (r .open ≡ o .open)
-told-whole p limit a {o} {r} {block} size none f =
-    let empty : length (gathered o block) ≡ 0 = ap length none in
-    let fit = lines-within p limit a .fits in
-    (f .waits (omega arith) ∙ ap (λ w. w ++ twoLines p limit a) none, f .stays (omega arith))
+told-whole p limit a size none f = waits-whole (lines-within p limit a) (omega (arith, size)) none f

@@ -86,6 +86,12 @@ impl Output {
         self.sent(&block[..n])
     }
 
+    // What is gathered goes to standard error: it is a message.
+    pub fn said(self, block: &[u8]) {
+        let n = self.held(block);
+        say(&block[..n]);
+    }
+
     // The same, where somebody may wait for it.
     fn passed(self, block: &[u8], awaited: bool) -> Output
         ensures passes { λ r. ⌜ Passes self r ⌝ }
