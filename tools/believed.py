@@ -5,7 +5,7 @@ Usage: python3 tools/believed.py [--check | --print | --laws | --why NAME]
 
 The theorems are what is public in the modules that the head of docs/PROMISES.md lists, but for definitions. Of each its statement counts,
 with the parameters of the modules that it stands in. So do the contracts of what is called from outside: of the public functions of
-`calls` and `nizhalepu`, and of the programs `bench`, `durations` and `explain`. Every name used there is followed to its definition in the repository, and from the
+`calls` and `nizhalepu`, and of the programs `bench`, `durations`, `explain` and `plan`. Every name used there is followed to its definition in the repository, and from the
 definition's own text on to the names that it uses; a struct or an enum of the sources counts by its lines there. It stops at the
 toolchain's library and at what STOPS lists, with the reason, which the page shows too: of such a definition only its signature is followed.
 What a computed theorem says of each row of a table stands in the row: the modules that ROWS lists count as statements.
@@ -48,7 +48,8 @@ WORDS = 'Nobody has to believe this'
 OF_LOGS = ('demands/Possible', 'demands/LogReads', 'demands/Exactly', 'demands/LogWords', 'reader/ReadBack', 'reader/Reasons')
 OF_DURATIONS = ('duration/Taking', 'duration/Refusing')
 OF_STOPS = ('demands/Stops', 'explanation/Explained', 'explanation/Refusing', 'nizhalepu/Explaining')
-OF_PLANS = ('demands/Planned', 'planner/Planning', 'planner/Words', 'planner/Refusing', 'plantext/Exactly', 'plantext/OneMeaning')
+OF_PLANS = ('demands/Planned', 'planner/Planning', 'planner/Words', 'planner/Refusing', 'plantext/Exactly', 'plantext/OneMeaning', 'plantext/Keeping',
+            'plan/AsSaid')
 OF_THE_CODE = ('calls/Outcome', 'calls/Kept', 'nizhalepu/Agreement')
 COMPUTED = ('demands/Worked', 'demands/Applied')
 # the modules of rows that the computed theorems speak of
@@ -56,7 +57,7 @@ ROWS = tuple(f'crates/demands/specs/{name}.antt' for name in
              ('Points', 'CallsTable', 'WireTable', 'VariablesTable', 'RunningTable', 'LogTable', 'Tables', 'Scripts'))
 CALLED = ('crates/calls/src/lib.rt', 'crates/nizhalepu/src/lib.rt')
 # the programs whose contracts say what they tell; that of `bench` stands in `console`
-PROGRAMS = ('crates/console/src/lib.rt', 'crates/durations/src/main.rt', 'crates/explain/src/telling.rt')
+PROGRAMS = ('crates/console/src/lib.rt', 'crates/durations/src/main.rt', 'crates/explain/src/telling.rt', 'crates/plan/src/telling.rt', 'crates/plan/src/main.rt')
 
 # a definition, or a type of the sources: where it stands and what it is called
 Name = collections.namedtuple('Name', 'path name')

@@ -56,13 +56,13 @@ PLAN = '140,120,50'  # edits of each sort
 # ---- the stripped copy
 
 def without_functions(text):
-    """a source's types alone; an item is a line at the margin and what is indented or closes under it"""
+    """a source's types and constants alone; an item is a line at the margin and what is indented or closes under it"""
     kept, ahead, keeps = [], [], True
     for line in text.split('\n'):
         if re.match(r'//|#\[', line):
             ahead.append(line)
         elif re.match(r'[^\s{}()\[\]]', line):
-            keeps = re.match(r'(pub )?(use|mod|struct|enum|type) ', line)
+            keeps = re.match(r'(pub )?(use|mod|struct|enum|type|const) ', line)
             kept += ahead + [line] if keeps else []
             ahead = []
         elif keeps:

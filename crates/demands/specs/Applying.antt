@@ -127,6 +127,8 @@ pub data Ends : Type 0 where
   goesOn : Ends
   -- the tick ends it, and the program is what comes of a plan of these numbers
   asPlanned : List ℕ → Ends
+  -- the program is what comes of such a plan, and the tick is not the last
+  midPlan : List ℕ → Ends
 
 unfoldable pub endsSo : Ends → Runs → List Bool
 endsSo onTime x =
@@ -143,6 +145,9 @@ endsSo onBad x =
 endsSo (asPlanned ns) x =
     let p = goes (x .begins .before) .last .held .program in
     eqb (x .begins .line) 0 ∷ all isWord ns ∷ isProgramOf (planned ns p) p ∷ eqb (x .count + 1) (total (movesOf ns)) ∷ []
+endsSo (midPlan ns) x =
+    let p = goes (x .begins .before) .last .held .program in
+    eqb (x .begins .line) 0 ∷ all isWord ns ∷ isProgramOf (planned ns p) p ∷ ltb (x .count + 1) (total (movesOf ns)) ∷ []
 endsSo goesOn x = isStill (stopReport (goes (x .begins .before) .last .held .program) (x .begins .line) (x .count)) ∷ []
 
 -- a start that ends the program at once, on its line: by the report of ticks, or on a Bad line, and by the report of a stop; what is read then is in `found`

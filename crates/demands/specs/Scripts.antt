@@ -6,7 +6,7 @@ use Rattle.controller.specs.Refusals.{powerOn, byte, tick, press, emptying}
 use Rattle.demands.specs.Exchanges.{change, gap}
 use Rattle.demands.specs.CallsTable.{lent}
 use Rattle.demands.specs.Walks.{Act, _⇒_, lends, gives, powers}
-use Rattle.demands.specs.Applying.{Back, Runs, onTime, onBad, goesOn, asPlanned, AtOnce, EndRead, First, Logs, Reads, Script}
+use Rattle.demands.specs.Applying.{Back, Runs, onTime, onBad, goesOn, asPlanned, midPlan, AtOnce, EndRead, First, Logs, Reads, Script}
 use Rattle.demands.specs.Applying.{back, running, unpausing, ending, startShown, tickShown, firstRead, firstWrite, logging, listing, oneRead}
 
 -- ---- calls that are refused, where the log has 64 bytes and holds a record
@@ -161,6 +161,26 @@ byPlan = record {
   reply = "003";
   isOn = false;
   found = "^CR206^CR212^CR211^" ⇒ "004^00^011^004^" ∷ [];
+}
+
+-- the program of a plan with a loop, 10,000 ticks of word 1 and 1 of word 2, in its first ticks
+abbrev pub byLongPlan : Runs
+byLongPlan = record {
+  begins = record {
+    before =
+        powers 32
+        ∷ "CW000F10001^CWIS00000000019999^CWIN1^CWIS00000000010001^CWIS00000000020001^CW007S00000000000000^" ⇒ "OK^OK^OK^OK^OK^OK^"
+        ∷ [];
+    start = press 1;
+    line = 0;
+  };
+  later = "CR206^CR213^#%#%CR211^#CR206^c r%2#0%6" ⇒ "01^0001^001^01^" ∷ [];
+  count = 2;
+  j = 206;
+  address = "206";
+  reply = "01";
+  isOn = true;
+  found = "^CR201^CR213^" ⇒ "01^82^0001^" ∷ [];
 }
 
 -- started by 005 before a Bad line, with a pause by 002 and by the button
@@ -365,6 +385,7 @@ scripts =
     ∷ running onTime byCommand
     ∷ running onBad byParameter
     ∷ running goesOn byButton
+    ∷ running (midPlan (1 ∷ 10000 ∷ 2 ∷ 1 ∷ [])) byLongPlan
     ∷ running (asPlanned (1 ∷ 2 ∷ 2 ∷ 1 ∷ 0 ∷ 1 ∷ 4 ∷ 2 ∷ [])) byPlan
     ∷ unpausing byButton
     ∷ ending onEndMark

@@ -2,21 +2,29 @@
 -- Assumes nothing.
 use Prim.Native.Nat.{ℕ, _^_, _<_, min}
 use mathlib.Core.Path.{_≡_, refl, sym, ap, subst, _∙_}
-use mathlib.Core.Bool.{Bool, _&&_}
+use native.Mathlib.Omega.{arith}
+use mathlib.Core.Bool.{Bool, true, false, _&&_}
 use mathlib.Core.List.{List, [], _∷_, _++_, map}
 use lib.ListN.{length, length-map}
-use Rattle.formats.specs.Checks.{all}
+use borrow.Author.Tests.{lt-ltb}
+use Rattle.formats.specs.Checks.{passed, all}
+use Rattle.formats.proofs.Checks.{both-true}
 use Rattle.formats.specs.Digits.{number}
 use Rattle.formats.proofs.Digits.{isBelow, number-below}
-use Rattle.planner.specs.Plan.{IsWord}
+use Rattle.planner.specs.Plan.{IsWord, movesOf, isTime, isTimed, areWords}
+use Rattle.planner.specs.Planned.{planned}
+use Rattle.planner.specs.ByTheRule.{CarriesOut}
+use Rattle.planner.proofs.Moves.{time-is}
+use Rattle.planner.proofs.Planning.{carried-out}
 use Rattle.plantext.specs.Text.{hexValue, isDigitTo, Word, OnLine, nothing, move, Says, last, line}
 use Rattle.plantext.specs.declared.Reader.{Reader}
 use Rattle.plantext.specs.Faults.{Wrong}
-use Rattle.plantext.specs.Kept.{kept, mostLine}
+use Rattle.plantext.specs.Kept.{kept}
 use Rattle.plantext.specs.Reading.{readerOf}
 use Rattle.plantext.proofs.Exactly.{said-so-read, wrong-so-told, read-so-said, told-so-wrong}
-use Rattle.plan.specs.Telling.{told, faultLines}
+use Rattle.plan.specs.Telling.{zeros, toldOf, told, faultLines}
 use Rattle.plan.specs.Reading.{ReadFrom, numbersOf, Worded, none, more}
+use Rattle.plan.proofs.Answers.{passed-is}
 use Rattle.plan.proofs.KeptSame.{told-kept}
 
 all-hex : (cs : List ℕ) → all (isBelow 16) (map hexValue cs) ≡ all (isDigitTo 16) cs
@@ -58,10 +66,10 @@ told-as-said check {text} {ns} says is =
 
 -- A text that is none has a fault, and its line and that fault are told. The largest number of eight bytes stands for every line behind it.
 pub wrong-as-told : {text : List ℕ} {n e : ℕ} {r : Reader} → Wrong text n e → r ≡ readerOf text
-    → (r .fault ≡ e) × (faultLines (r .line) (r .fault) ≡ faultLines (min n mostLine) e)
+    → (r .fault ≡ e) × (faultLines (r .line) (r .fault) ≡ faultLines (min n 18446744073709551615) e)
 wrong-as-told {text} {n} {e} wrong is =
     let read = wrong-so-told text n e wrong in
-    rw is (read .fault, ap (λ l. faultLines l (readerOf text .fault)) (read .line) ∙ ap (faultLines (min n mostLine)) (read .fault))
+    rw is (read .fault, ap (λ l. faultLines l (readerOf text .fault)) (read .line) ∙ ap (faultLines (min n 18446744073709551615)) (read .fault))
 
 -- and nothing else is told: without a fault, what some text says
 pub read-as-said : (check : Bool) {r : Reader} (f : ReadFrom r) → r .fault ≡ 0
@@ -71,7 +79,33 @@ read-as-said check {r} f clear =
     (said .numbers, said .says, told-as-said check (said .says) (f .read) .1)
 
 -- and with one, what is wrong with it
-pub fault-as-wrong : {r : Reader} (f : ReadFrom r) → (r .fault ≡ 0 → ⊥) → (n : ℕ) × Wrong (f .text) n (r .fault) × (r .line ≡ min n mostLine)
+pub fault-as-wrong : {r : Reader} (f : ReadFrom r) → (r .fault ≡ 0 → ⊥) → (n : ℕ) × Wrong (f .text) n (r .fault) × (r .line ≡ min n 18446744073709551615)
 fault-as-wrong {r} f some =
     let is = told-so-wrong (f .text) (λ clear. some (ap (λ x. x .fault) (f .read) ∙ clear)) in
     (is .line, subst (Wrong (f .text) (is .line)) (sym (ap (λ x. x .fault) (f .read))) (is .wrong), ap (λ x. x .line) (f .read) ∙ is .told)
+
+-- ---- what the program does
+
+timed-words : {ns : List ℕ} → Worded ns → all isTimed (movesOf ns) ≡ true → areWords ns ≡ true
+unfolding movesOf
+timed-words none so = refl
+timed-words (more w s v r ns fits fits′ rest) so =
+    let here = both-true (isTime s && isTime r) (all isTimed (movesOf ns)) so in
+    let times = both-true (isTime s) (isTime r) (here .0) in
+    let settling = time-is s (times .0) in
+    let reading = time-is r (times .1) in
+    rw (
+      lt-ltb w (256 ^ 4) fits,
+      lt-ltb s (256 ^ 4) (omega (arith, settling .1)),
+      lt-ltb v (256 ^ 4) fits′,
+      lt-ltb r (256 ^ 4) (omega (arith, reading .1)),
+      timed-words rest (here .1),
+    )
+
+-- From the text to the outputs: where a text says numbers that are not refused, what is told of it without --check is a program that carries the plan
+-- out.
+pub carried-as-said : {text ns : List ℕ} (p : List ℕ) → Says text ns → planned ns zeros ≡ passed p
+    → (told false ns ≡ p) × ((outputs : ℕ) → CarriesOut (movesOf ns) p outputs)
+unfolding told
+carried-as-said {ns = ns} p says is =
+    (ap (toldOf false (movesOf ns)) is, carried-out ns zeros p (timed-words (says-worded says) (passed-is ns zeros p is .timed)) is)

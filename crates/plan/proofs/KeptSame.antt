@@ -16,15 +16,13 @@ use Rattle.planner.specs.declared.Move.{Move}
 use Rattle.planner.specs.Plan.{movesOf, mostTime, isTime, isTimed, InRange}
 use Rattle.planner.specs.Planned.{isCounted, planned}
 use Rattle.planner.proofs.Moves.{time-is, counted-is}
-use Rattle.plantext.specs.Kept.{most, room, capped, kept}
+use Rattle.plantext.specs.Kept.{room, capped, kept}
+use Rattle.plantext.proofs.Keeping.{capped-same}
 use Rattle.plan.specs.Telling.{toldOf, told, zeros}
 use Rattle.plan.specs.Reading.{Worded, none, more}
 use Rattle.plan.proofs.Answers.{passed-is}
 
 -- ---- a number
-
-capped-same : (n : ℕ) → n ≤ most → capped n ≡ n
-capped-same n le = omega arith
 
 time-so : (t : ℕ) → InRange t → isTime t ≡ true
 time-so t (some, few) = rw (le-leb 1 t some, le-leb t mostTime few)

@@ -11,7 +11,7 @@ use borrow.Author.Tests.{le-leb, lt-leb, eq-eqb, ne-eqb}
 use Rattle.formats.specs.Bytes.{placed}
 use Rattle.formats.proofs.Writing.{wrote-nothing, wrote-more, wrote-as}
 use Rattle.lines.specs.declared.Line.{Line}
-use Rattle.lines.specs.declared.Line.the-variants.{State}
+use Rattle.lines.specs.declared.Line.the-variants.{State, For, Next}
 use Rattle.lines.specs.Line.{endMark, bytesOf}
 use Rattle.lines.specs.Program.{putLine}
 use Rattle.lines.proofs.Lines.{length-bytes}
@@ -88,6 +88,17 @@ no-remainder w r is = rw (eq-eqb r 0 is)
 pub some-remainder : (w r : ℕ) → (r ≡ 0 → ⊥) → remainder w r ≡ State w r ∷ []
 unfolding remainder
 some-remainder w r ne = rw (ne-eqb r 0 ne)
+
+-- A longer time is "a For of time / 9,999, a State of 9,999, a Next", where the loop takes all of it,
+pub long-even : (w t : ℕ) → 9999 < t → t % 9999 ≡ 0 → linesFor w t ≡ For 1 (t / 9999) ∷ State w 9999 ∷ Next 1 ∷ []
+unfolding loopLines
+long-even w t lt is = long-lines w t lt ∙ ap (λ ls. loopLines w (t / 9999) ++ ls) (no-remainder w (t % 9999) is)
+
+-- "and a State of the remainder", where it does not.
+pub long-odd : (w t : ℕ) → 9999 < t → (t % 9999 ≡ 0 → ⊥)
+    → linesFor w t ≡ For 1 (t / 9999) ∷ State w 9999 ∷ Next 1 ∷ State w (t % 9999) ∷ []
+unfolding loopLines
+long-odd w t lt ne = long-lines w t lt ∙ ap (λ ls. loopLines w (t / 9999) ++ ls) (some-remainder w (t % 9999) ne)
 
 -- at most four
 pub few-lines : (w t : ℕ) → length (linesFor w t) ≤ 4

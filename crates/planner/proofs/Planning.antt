@@ -3,7 +3,7 @@
 use Prim.Native.Nat.{ℕ, _+_, _/_, _≤_}
 use native.Mathlib.Omega.{arith}
 use mathlib.Core.Path.{_≡_, refl, sym, _∙_}
-use mathlib.Core.Bool.{Bool, true}
+use mathlib.Core.Bool.{true}
 use mathlib.Core.List.{List, [], _∷_}
 use lib.ListN.{length}
 use borrow.Author.Tests.{ltb-true, eqb-true}
@@ -12,6 +12,7 @@ use Rattle.formats.proofs.Checks.{both-true, rule-holds, passed-same}
 use Rattle.formats.proofs.Refusals.{passed-all}
 use Rattle.lines.specs.Program.{isProgram}
 use Rattle.duration.specs.Report.{report}
+use Rattle.planner.specs.declared.Move.{Move}
 use Rattle.planner.specs.Plan.{movesOf, isTimed, isWord, areWords, IsPlan, AllProper, none, more, total}
 use Rattle.planner.specs.Lines.{planLines, programOf}
 use Rattle.planner.specs.Planned.{isCounted, planned}
@@ -48,29 +49,40 @@ moves-proper (a ∷ b ∷ c ∷ d ∷ ns) words timed =
     more (record { moveword = ltb-true a _ (w1 .0); settling = m .settling; readingword = ltb-true c _ (w3 .0); reading = m .reading })
     (moves-proper ns (w4 .1) (t .1))
 
-module _ (ns area p : List ℕ) (words : areWords ns ≡ true) (is : planned ns area ≡ passed p) where
+some-ticks : (ms : List Move) → 1 ≤ length ms → AllProper ms → 2 ≤ total ms
+unfolding total
+some-ticks [] some none = absurd (omega arith)
+some-ticks (m ∷ ms) some (more so rest) = omega (arith, so .settling .0, so .reading .0)
+
+module _ (ns area p : List ℕ) (is : planned ns area ≡ passed p) where
   checked : (isProgram area ≡ true) × (isCounted ns ≡ true) × (all isTimed (movesOf ns) ≡ true)
   checked =
       let so = passed-all (cs ns area) (programOf (movesOf ns)) (sym (by-checks ns area) ∙ is) in
       (rule-holds _ 30 (so 0 (omega arith)), rule-holds _ 70 (so 1 (omega arith)), rule-holds _ 71 (so 2 (omega arith)))
 
-  -- A plan that is taken is one,
-  pub is-plan : IsPlan (movesOf ns)
-  is-plan =
-      let c = counted-is ns (checked .1) in
-      let l = count-is ns in
-      record { some = omega (arith, c .1); few = omega (arith, c .2); moves = moves-proper ns words (checked .2) }
-
-  program-is : p ≡ programOf (movesOf ns)
+  -- What is written of a plan that is taken is its program,
+  pub program-is : p ≡ programOf (movesOf ns)
   program-is = passed-same (sym is ∙ taken ns area (eqb-true (length area) 1600 (checked .0)) (checked .1) (checked .2))
 
-  -- and what is written carries it out, whatever the outputs were at the start.
+module _ (ns area p : List ℕ) (words : areWords ns ≡ true) (is : planned ns area ≡ passed p) where
+  -- it is one,
+  pub is-plan : IsPlan (movesOf ns)
+  is-plan =
+      let c = counted-is ns (checked ns area p is .1) in
+      let l = count-is ns in
+      record { some = omega (arith, c .1); few = omega (arith, c .2); moves = moves-proper ns words (checked ns area p is .2) }
+
+  -- and its program carries it out, whatever the outputs were at the start.
   pub carried-out : (outputs : ℕ) → CarriesOut (movesOf ns) p outputs
-  carried-out outputs = rw program-is (carries-out (movesOf ns) (is-plan .few) (is-plan .moves) outputs)
+  carried-out outputs = rw (program-is ns area p is) (carries-out (movesOf ns) (is-plan .few) (is-plan .moves) outputs)
 
   -- The report of durations tells the sum of its times,
   pub takes-the-sum : report p ≡ passed (total (movesOf ns))
-  takes-the-sum = rw program-is (reported (movesOf ns) (is-plan .few) (is-plan .moves))
+  takes-the-sum = rw (program-is ns area p is) (reported (movesOf ns) (is-plan .few) (is-plan .moves))
+
+  -- which is two ticks at least,
+  pub sum-some : 2 ≤ total (movesOf ns)
+  sum-some = some-ticks (movesOf ns) (is-plan .some) (is-plan .moves)
 
   -- and 200 lines suffice: with the end mark at most 129 are used.
   pub lines-suffice : length (planLines (movesOf ns)) + 1 ≤ 129

@@ -8,11 +8,10 @@ use mathlib.Core.Bool.{Bool, true, false, _&&_, true≢false}
 use mathlib.Core.List.{List, [], _∷_}
 use lib.ListN.{length, getD}
 use borrow.Author.Tests.{eqb-false, ne-eqb, eq-eqb, le-leb}
-use Rattle.formats.specs.Checks.{refused, passed, all, _orElse_, inOrder}
+use Rattle.formats.specs.Checks.{refused, passed, all}
 use Rattle.formats.specs.Order.{First}
 use Rattle.formats.proofs.Checks.{rule-refuses, rule-fails}
 use Rattle.formats.proofs.Refusals.{Check, checkAt, Worded, told-first, first-told, passed-none}
-use Rattle.lines.specs.Program.{isProgram}
 use Rattle.planner.specs.Plan.{movesOf, isTime, isTimed, InRange, mostTime}
 use Rattle.planner.specs.Lines.{programOf}
 use Rattle.planner.specs.Planned.{isCounted, planned}

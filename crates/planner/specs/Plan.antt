@@ -64,7 +64,7 @@ isTimed m = isTime (m .settling) && isTime (m .reading)
 
 -- the same in words
 abbrev pub InRange : ℕ → Type 0
-InRange t = (1 ≤ t) × (t ≤ mostTime)
+InRange t = (1 ≤ t) × (t ≤ 600000)
 
 pub record Timed (m : Move) : Type 0 where
   pub settling : InRange (m .settling)

@@ -1,11 +1,11 @@
 -- The reader reads what the text says, and tells what is wrong with it, and nothing else.
 -- Assumes nothing.
 use mathlib.Core.Path.{_≡_, refl, sym, subst, _∙_}
-use Prim.Native.Nat.{ℕ, suc, _+_, _*_, _-_, _/_, _≤_, _<_, min}
+use Prim.Native.Nat.{ℕ, suc, _+_, _-_, _/_, _≤_, _<_, min}
 use native.Mathlib.Omega.{arith}
 use mathlib.Core.Bool.{Bool, true, false, true≢false}
 use mathlib.Core.List.{List, [], _∷_}
-use lib.ListN.{length, take, replicate, length-append}
+use lib.ListN.{replicate, length-append}
 use lib.Dec.{ltb, eqb}
 use borrow.Author.Tests.{eq-eqb, ltb-true, ltb-false}
 use Rattle.formats.specs.Checks.{if_then_else_}
@@ -13,8 +13,8 @@ use Rattle.formats.proofs.Checks.{if-case}
 use Rattle.plantext.specs.declared.Reader.{Reader}
 use Rattle.plantext.specs.Text.{OnLine, nothing, move, lineOf, Says, last, line}
 use Rattle.plantext.specs.Faults.{Wrong, last as lastWrong, here, later}
-use Rattle.plantext.specs.Kept.{room, kept}
-use Rattle.plantext.specs.Reading.{begin, withCr, lineAfter, closed, letter, lineEnd, resolved, byteAfter, step, fed, ended, readerOf}
+use Rattle.plantext.specs.Kept.{room}
+use Rattle.plantext.specs.Reading.{withCr, lineAfter, closed, letter, lineEnd, resolved, byteAfter, step, fed, ended, readerOf}
 use Rattle.plantext.specs.Kept.{mostLine}
 use Rattle.plantext.specs.AtEnd.{IsRead, Said, IsTold, IsWrong, Fours}
 use Rattle.plantext.proofs.Walking.{Store, at, letters}

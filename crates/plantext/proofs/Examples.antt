@@ -69,6 +69,10 @@ examples =
     ∷ text "00000001 1 00000000 1 1" gives (8 ∷ 1 ∷ [])
     -- of several the first from the left, and from above
     ∷ (text "00000001 x 0" ++ lf ++ text "0") gives (2 ∷ 1 ∷ [])
+    -- on a later line
+    ∷ (times 12 (text "#" ++ lf) ++ text "2") gives (1 ∷ 13 ∷ [])
+    -- a vertical tab is no blank
+    ∷ (text "00000001 1 00000000 1 " ++ (11 ∷ [])) gives (8 ∷ 1 ∷ [])
     -- a CR that no LF follows
     ∷ cr gives (1 ∷ 1 ∷ [])
     ∷ (text "00000001 1 00000000 1" ++ cr) gives (4 ∷ 1 ∷ [])

@@ -9,3 +9,4 @@ pub mod Exactly
 pub mod Examples
 pub mod Worth
 pub mod OneMeaning
+pub mod Keeping

@@ -5,17 +5,18 @@ use mathlib.Core.Path.{_≡_, refl, sym, ap, ap₂, _∙_}
 use Prim.Native.Nat.{ℕ, _+_, _-_, _≤_, _<_}
 use Prim.Native.Char.{code}
 use native.Mathlib.Omega.{arith}
+use mathlib.Core.Logic.{_⊎_, inl, inr}
 use mathlib.Core.Bool.{Bool, true, false, _&&_, false≢true}
 use mathlib.Core.List.{List, [], _∷_, map}
 use lib.ListN.{length, length-map}
-use lib.Dec.{leb, ltb}
-use borrow.Author.Tests.{leb-true, le-leb, lt-leb, ltb-true}
+use lib.Dec.{leb, ltb, eqb}
+use borrow.Author.Tests.{leb-true, le-leb, lt-leb, ltb-true, eqb-true}
 use Rattle.formats.specs.Checks.{if_then_else_, all}
 use Rattle.formats.specs.Digits.{number, digitValue}
 use Rattle.formats.specs.Worth.{digitWorth, worth, areDigits, ReadAs}
 use Rattle.formats.proofs.Checks.{both-true, by-both}
 use Rattle.formats.proofs.Worth.{digit-worth, is-worth}
-use Rattle.plantext.specs.Text.{hexValue, isDigitTo, Word, Time}
+use Rattle.plantext.specs.Text.{isBlank, hexValue, isDigitTo, Word, Time}
 
 -- "of either case": a to f count as A to F
 abbrev pub capital : ℕ → ℕ
@@ -120,3 +121,13 @@ pub worth-time : (cs : List ℕ) (t : ℕ) → 0 < length cs → ReadAs 10 (leng
 worth-time cs t some is =
     let are : all (isDigitTo 10) cs ≡ true = decimal-digits cs ∙ is .digits in
     record { some = some; digits = are; value = sym (time-number cs are ∙ is .value) }
+
+-- ---- blanks
+
+-- "blanks or tabs", and no other character
+pub blank-only : (c : ℕ) → isBlank c ≡ true → (c ≡ 32) ⊎ (c ≡ 9)
+blank-only c so = go (eqb c 32) refl
+  where
+    go : (t : Bool) → eqb c 32 ≡ t → (c ≡ 32) ⊎ (c ≡ 9)
+    go true e = inl (eqb-true c 32 e)
+    go false e = inr (eqb-true c 9 (sym (rw e) ∙ so))

@@ -7,7 +7,7 @@ use lib.ListN.{length, take}
 use Rattle.plantext.specs.declared.Reader.{Reader}
 use Rattle.plantext.specs.Text.{Says}
 use Rattle.plantext.specs.Faults.{Wrong}
-use Rattle.plantext.specs.Kept.{room, kept, mostLine}
+use Rattle.plantext.specs.Kept.{room, kept}
 use Rattle.plantext.specs.Reading.{readerOf}
 
 -- numbers come in fours, one four for each move
@@ -30,10 +30,10 @@ pub record Said (t : List ℕ) : Type 0 where
 -- a fault is told, and its line, the largest number standing for every larger one
 pub record IsTold (r : Reader) (n e : ℕ) : Type 0 where
   pub fault : r .fault ≡ e
-  pub line : r .line ≡ min n mostLine
+  pub line : r .line ≡ min n 18446744073709551615
 
 -- the fault that is told is wrong with the text
 pub record IsWrong (t : List ℕ) : Type 0 where
   pub line : ℕ
   pub wrong : Wrong t line (readerOf t .fault)
-  pub told : readerOf t .line ≡ min line mostLine
+  pub told : readerOf t .line ≡ min line 18446744073709551615

@@ -5,7 +5,6 @@ ghost use mathlib.Core.Path.{_≡_};
 ghost use Rattle.plantext.specs.Text.{hexValue};
 ghost use Rattle.plantext.specs.Reading.{begin, base, digitsAfter, valueAfter, character, wrong, missing, store, fieldAfter, fieldEnd};
 ghost use Rattle.plantext.specs.Reading.{closed, hash, letter, lineAfter, lineEnd, resolved, step, fed, ended};
-use formats::digit_value;
 
 // How many numbers there is room for: those of 17 moves. A plan has at most 16.
 pub const ROOM: usize = 68;
@@ -37,12 +36,12 @@ fn hex_value(c: u8) -> u8
     ensures value { λ r. ⌜ r ≡ hexValue c ⌝ }
 {
     if c < b'a' {
-        return digit_value(c);
+        return formats::digit_value(c);
     }
     if c <= b'f' {
         return c - b'a' + 10;
     }
-    digit_value(c)
+    formats::digit_value(c)
 }
 
 // The base of a field's digits: 16 for the words, 10 for the times.

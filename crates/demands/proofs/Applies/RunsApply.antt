@@ -4,7 +4,7 @@ use mathlib.Core.Path.{_≡_, refl, sym, ap, ap₂, subst, _∙_}
 use mathlib.Core.Bool.{Bool, true, false}
 use mathlib.Core.List.{List, [], _∷_, _++_}
 use mathlib.Core.Option.{some}
-use Prim.Native.Nat.{ℕ, _+_}
+use Prim.Native.Nat.{ℕ, _+_, _≤_}
 use native.Mathlib.Omega.{arith}
 use lib.ListN.{length}
 use lib.Dec.{eqb}
@@ -31,8 +31,8 @@ use Rattle.demands.specs.ReadBack.{ReadOf}
 use Rattle.demands.specs.Started.{Course, Started, programOf, startOf, count, ruled, Ticks, ticked, ShowsStop}
 use Rattle.demands.specs.Undisturbed.{Unbroken, isBroken, isPausing}
 use Rattle.demands.specs.Walks.{Ask, asking, asksOf, setOut, madeOf, noteBy, Trail, trail}
-use Rattle.demands.specs.Premises.{copy, goes, _behind_, oneMore, end, handsOn, never, ruledAt, isGiven}
-use Rattle.demands.specs.Applying.{Begins, begins, Runs, runs, onTime, onBad, goesOn, asPlanned, Ends, endsSo, AtOnce, atOnce, pausesNot}
+use Rattle.demands.specs.Premises.{copy, goes, _behind_, oneMore, end, handsOn, never, ruledAt, isGiven, isProgramOf}
+use Rattle.demands.specs.Applying.{Begins, begins, Runs, runs, onTime, onBad, goesOn, asPlanned, midPlan, Ends, endsSo, AtOnce, atOnce, pausesNot}
 use Rattle.demands.proofs.History.Telling.{after-more, told-more}
 use Rattle.demands.proofs.Applies.Walked.{
   calls,
@@ -58,7 +58,7 @@ use Rattle.demands.proofs.Applies.Walked.{
 }
 use Rattle.demands.proofs.Runs.ByTheRules.{runs-by-the-rules, outputs-by-the-rules, ends-by-the-rules, pauses-only}
 use Rattle.demands.proofs.Runs.Stops.{runs-until-then, stops-as-explained, stops-in-the-start, runs-as-explained}
-use Rattle.demands.proofs.Runs.Planned.{outputs-as-planned, ends-as-planned}
+use Rattle.demands.proofs.Runs.Planned.{outputs-as-planned, no-event-at-start, no-event-before, ends-as-planned, tick-runs-few}
 use Rattle.demands.proofs.Runs.Ends.{bad-start, bad-tick, runs-as-long, ends-on-time, ends-at-once}
 
 -- ---- the start
@@ -149,7 +149,7 @@ module _ (x : Runs) where
       × ReadOf now (x .j) (madeOf end (l .last) .areas)
 
   -- what `runs-as-long` and `ends-on-time` say, `bad-tick` with `runs-until-then` and `stops-as-explained`, `runs-as-explained`, and
-  -- `outputs-as-planned` and `ends-as-planned`
+  -- those of `Planned`
   abbrev pub EndsSo : Ends → Type 0
   EndsSo onTime = let gone = told (now ++ (ticking t ∷ [])) in (told now .run .on ≡ true) × (gone .event ≡ 11) × (gone .run .on ≡ false)
   EndsSo onBad = let gone = now ++ (ticking t ∷ []) in (told gone .event ≡ 14) × (told now .run .on ≡ true) × ShowsStop gone 14 (ruledNow .line + 1)
@@ -157,6 +157,9 @@ module _ (x : Runs) where
   EndsSo (asPlanned ns) =
       let gone = now ++ (ticking t ∷ []) in
       (outputs now ≡ wordAt (movesOf ns) (x .count)) × (outputs gone ≡ 0) × ShowsStop gone 11 (length (planLines (movesOf ns)))
+  EndsSo (midPlan ns) =
+      (outputs now ≡ wordAt (movesOf ns) (x .count)) × (told (now ++ (ticking t ∷ [])) .event ≡ told now .event)
+      × (told (startedBy s) .event ≡ told p .event) × (seen now (ticking t) .lines ≤ 2)
 
   module _ (ok : AllTrue (runs x)) where
     at : (i : ℕ) → nth i (runs x) ≡ true
@@ -231,6 +234,13 @@ module _ (x : Runs) where
       },
     )
 
+    -- the program that is started is the plan's
+    planned-so : (ns : List ℕ) → let held = goes (s .before) .last .held .program in isProgramOf (planned ns held) held ≡ true
+        → planned ns held ≡ passed (programOf c)
+    planned-so ns e =
+        let held = goes (s .before) .last .held .program in
+        program-so (planned ns held) held e ∙ ap passed (sym (ap (λ (h : Held). h .program) (at-start s .held)))
+
     pub ends-apply : (kind : Ends) → AllTrue (endsSo kind x) → EndsSo kind
     unfolding endsSo
     ends-apply onTime e =
@@ -251,11 +261,20 @@ module _ (x : Runs) where
     ends-apply goesOn e =
         runs-as-explained c so (x .count)
         (ap (λ (h : Held). stopReport (h .program) (s .line) (x .count)) (at-start s .held) ∙ still-so _ (e .0)) (omega (arith, count-is))
+    ends-apply (midPlan ns) e =
+        let first = eqb-true (s .line) 0 (e .0) in
+        let held = goes (s .before) .last .held .program in
+        let is = planned-so ns (e .1 .1 .0) in
+        let less = ltb-true (x .count + 1) (total (movesOf ns)) (e .1 .1 .1 .0) in (
+          outputs-as-planned c so first ns held (e .1 .0) is (omega (arith, count-is)) ∙ ap (wordAt (movesOf ns)) count-is,
+          no-event-before c so first ns held (e .1 .0) is (omega (arith, count-is)) t next,
+          no-event-at-start c so first ns held (e .1 .0) is,
+          tick-runs-few c so first ns held (e .1 .0) is (omega (arith, count-is)) t next,
+        )
     ends-apply (asPlanned ns) e =
         let first = eqb-true (s .line) 0 (e .0) in
-        let same-program = ap (λ (h : Held). h .program) (at-start s .held) in
         let held = goes (s .before) .last .held .program in
-        let is : planned ns held ≡ passed (programOf c) = program-so (planned ns held) held (e .1 .1 .0) ∙ ap passed (sym same-program) in
+        let is = planned-so ns (e .1 .1 .0) in
         let sum = eqb-true (x .count + 1) (total (movesOf ns)) (e .1 .1 .1 .0) in
         let end = ends-as-planned c so first ns held (e .1 .0) is (ap (λ n. n + 1) count-is ∙ sum) t next in
         (outputs-as-planned c so first ns held (e .1 .0) is (omega (arith, count-is)) ∙ ap (wordAt (movesOf ns)) count-is, end .1, end .2)

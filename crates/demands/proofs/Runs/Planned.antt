@@ -18,12 +18,12 @@ use Rattle.planner.specs.Plan.{movesOf, total, wordAt, areWords}
 use Rattle.planner.specs.Lines.{planLines}
 use Rattle.planner.specs.Planned.{planned}
 use Rattle.planner.specs.ByTheRule.{CarriesOut}
-use Rattle.planner.proofs.Planning.{carried-out}
+use Rattle.planner.proofs.Planning.{carried-out, sum-some}
 use Rattle.controller.specs.Controller.{Areas}
 use Rattle.demands.specs.Histories.{ticking}
 use Rattle.demands.specs.Seen.{seen, outputs}
 use Rattle.demands.specs.Told.{told}
-use Rattle.demands.specs.Started.{Course, now, Started, programOf, startOf, count, ruled, Ticks, ticked, ShowsStop}
+use Rattle.demands.specs.Started.{Course, begun, now, Started, programOf, startOf, count, ruled, Ticks, ticked, ShowsStop}
 use Rattle.demands.proofs.History.AsTold.{outputs-as-told}
 use Rattle.demands.proofs.Runs.ByTheRules.{starts-by-the-rules, outputs-by-the-rules, ends-by-the-rules}
 use Rattle.demands.proofs.Runs.Ends.{shows-stop, runs-so-long, ends-there}
@@ -62,7 +62,14 @@ module _ (c : Course) (so : Started c) (first : c .line ≡ 0) (ns area : List �
       ∙ ap (λ (r : Run). r .outputs) (sym (after-ticks (programOf c) (count c) (startOf c)))
       ∙ ruled-outputs (count c) ∙ carries .words (count c) lt
 
-  -- A tick before the last raises no event;
+  -- The start raises no event,
+  pub no-event-at-start : told (begun c) .event ≡ told (c .before) .event
+  unfolding Ticking.after
+  no-event-at-start =
+      let some = sum-some ns area (programOf c) words is in
+      starts-by-the-rules c so .1 ∙ ap (λ e. if eqb e 0 then told (c .before) .event else e) (lasts .before 0 (omega arith) .event)
+
+  -- nor does a tick before the last;
   pub no-event-before : count c + 1 < total (movesOf ns) → (a : Areas) → Ticks c a → told (ticked c a) .event ≡ told (now c) .event
   no-event-before lt a t =
       let x = tick-after (programOf c) (count c) (startOf c) in
