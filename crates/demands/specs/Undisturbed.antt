@@ -1,5 +1,7 @@
 -- Demand 3: what breaks a program off, and which ticks count.
 use Prim.Native.Nat.{ℕ, _+_}
+use mathlib.Core.Path.{_≡_}
+use mathlib.Core.Logic.{_⊎_}
 use mathlib.Core.Bool.{Bool, not, _&&_, _||_}
 use mathlib.Core.List.{List, [], _∷_}
 use lib.Dec.{eqb, leb}
@@ -37,3 +39,7 @@ isTouched t n =
 
 abbrev pub Untouched : Told → List Note → Type 0
 Untouched = Never isTouched
+
+-- an event is as it was, or was read: "reading it clears code and D7"
+abbrev pub SameOrNone : ℕ → ℕ → Type 0
+SameOrNone event before = (event ≡ before) ⊎ (event ≡ 0)

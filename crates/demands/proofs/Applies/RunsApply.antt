@@ -29,7 +29,7 @@ use Rattle.demands.specs.Seen.{isTaken, seen, outputs, Note, note, notes
 use Rattle.demands.specs.Told.{Told, said, starts, tell, tellAll, told, Never}
 use Rattle.demands.specs.ReadBack.{ReadOf}
 use Rattle.demands.specs.Started.{Course, Started, programOf, startOf, count, ruled, Ticks, ticked, ShowsStop}
-use Rattle.demands.specs.Undisturbed.{Unbroken, isBroken, isPausing}
+use Rattle.demands.specs.Undisturbed.{Unbroken, isBroken, isPausing, SameOrNone}
 use Rattle.demands.specs.Walks.{Ask, asking, asksOf, setOut, madeOf, noteBy, Trail, trail}
 use Rattle.demands.specs.Premises.{copy, goes, _behind_, oneMore, end, handsOn, never, ruledAt, isGiven, isProgramOf}
 use Rattle.demands.specs.Applying.{Begins, begins, Runs, runs, onTime, onBad, goesOn, asPlanned, midPlan, Ends, endsSo, AtOnce, atOnce, pausesNot}
@@ -58,7 +58,7 @@ use Rattle.demands.proofs.Applies.Walked.{
 }
 use Rattle.demands.proofs.Runs.ByTheRules.{runs-by-the-rules, outputs-by-the-rules, ends-by-the-rules, pauses-only}
 use Rattle.demands.proofs.Runs.Stops.{runs-until-then, stops-as-explained, stops-in-the-start, runs-as-explained}
-use Rattle.demands.proofs.Runs.Planned.{outputs-as-planned, no-event-at-start, no-event-before, ends-as-planned, tick-runs-few}
+use Rattle.demands.proofs.Runs.Planned.{outputs-as-planned, no-event-before, ends-as-planned, tick-runs-few}
 use Rattle.demands.proofs.Runs.Ends.{bad-start, bad-tick, runs-as-long, ends-on-time, ends-at-once}
 
 -- ---- the start
@@ -158,8 +158,7 @@ module _ (x : Runs) where
       let gone = now ++ (ticking t ∷ []) in
       (outputs now ≡ wordAt (movesOf ns) (x .count)) × (outputs gone ≡ 0) × ShowsStop gone 11 (length (planLines (movesOf ns)))
   EndsSo (midPlan ns) =
-      (outputs now ≡ wordAt (movesOf ns) (x .count)) × (told (now ++ (ticking t ∷ [])) .event ≡ told now .event)
-      × (told (startedBy s) .event ≡ told p .event) × (seen now (ticking t) .lines ≤ 2)
+      (outputs now ≡ wordAt (movesOf ns) (x .count)) × SameOrNone (told now .event) (told p .event) × (seen now (ticking t) .lines ≤ 2)
 
   module _ (ok : AllTrue (runs x)) where
     at : (i : ℕ) → nth i (runs x) ≡ true
@@ -267,8 +266,7 @@ module _ (x : Runs) where
         let is = planned-so ns (e .1 .1 .0) in
         let less = ltb-true (x .count + 1) (total (movesOf ns)) (e .1 .1 .1 .0) in (
           outputs-as-planned c so first ns held (e .1 .0) is (omega (arith, count-is)) ∙ ap (wordAt (movesOf ns)) count-is,
-          no-event-before c so first ns held (e .1 .0) is (omega (arith, count-is)) t next,
-          no-event-at-start c so first ns held (e .1 .0) is,
+          no-event-before c so first ns held (e .1 .0) is (omega (arith, count-is)),
           tick-runs-few c so first ns held (e .1 .0) is (omega (arith, count-is)) t next,
         )
     ends-apply (asPlanned ns) e =

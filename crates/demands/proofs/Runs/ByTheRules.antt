@@ -31,7 +31,7 @@ use Rattle.demands.specs.ReadBack.{ReadOf}
 use Rattle.demands.specs.Shown.{shownOf}
 use Rattle.demands.specs.Replies.{ended}
 use Rattle.demands.specs.Started.{Course, begun, now, Started, programOf, startOf, count, ruled, Ticks, ticked}
-use Rattle.demands.specs.Undisturbed.{unpaused, isBroken, isPausing}
+use Rattle.demands.specs.Undisturbed.{unpaused, isBroken, isPausing, SameOrNone}
 use Rattle.demands.proofs.Calls.Answered.{invariant-always}
 use Rattle.demands.proofs.History.Steps.{Step, passes, fails, stepped, program-held}
 use Rattle.demands.proofs.History.Agrees.{Agrees}
@@ -40,7 +40,7 @@ use Rattle.demands.proofs.History.Telling.{tell-taken, after-more, told
 use Rattle.demands.proofs.History.AsTold.{outputs-as-told, only-running-paused}
 use Rattle.demands.proofs.Calls.Replies.{reads-as-told}
 use Rattle.demands.proofs.Runs.LinesRun.{lines-as-told}
-use Rattle.demands.proofs.Runs.Undisturbed.{given-as-told, undisturbed}
+use Rattle.demands.proofs.Runs.Undisturbed.{given-as-told, undisturbed, no-event-meanwhile}
 
 -- ---- the start
 
@@ -216,6 +216,18 @@ module _ (c : Course) (so : Started c) where
         sym (held-as-told (now c) .run) ∙ ap (λ (x : Held). x .state .run) gone ∙ go .run ∙ e,
         ap (λ (x : Held). x .program) gone ∙ go .program ∙ s .1,
       )
+
+  -- Until then no call raises an event: 212 has what it had after the start, or 0, where that was read.
+  pub events-by-the-rules : ruled c .on ≡ true → SameOrNone (told (now c) .event) (told (begun c) .event)
+  unfolding after
+  events-by-the-rules on =
+      let h = after unpowered (begun c) in
+      let s = started in
+      let e : ticks (h .program) (count c) (h .state .run) ≡ ruled c = ap₂ (λ p r. ticks p (count c) r) (s .1) (s .0) in
+      let quiet = no-event-meanwhile (c .later) (told (begun c)) h (held-as-told (begun c)) (invariant-always (begun c))
+      (subst (λ (x : Held). AllHandOn x (c .later)) (sym (after-more (c .before) (c .starting ∷ []))) (so .hands .1)) (so .unbroken)
+      (ap (λ (r : Run). r .on) e ∙ on) in
+      subst (λ (t : Told). SameOrNone (t .event) (told (begun c) .event)) (sym (told-more (begun c) (c .later))) quiet
 
   -- So the 32 outputs are the rules'.
   pub outputs-by-the-rules : ruled c .on ≡ true → outputs (now c) ≡ ruled c .outputs

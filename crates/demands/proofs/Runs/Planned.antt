@@ -24,8 +24,9 @@ use Rattle.demands.specs.Histories.{ticking}
 use Rattle.demands.specs.Seen.{seen, outputs}
 use Rattle.demands.specs.Told.{told}
 use Rattle.demands.specs.Started.{Course, begun, now, Started, programOf, startOf, count, ruled, Ticks, ticked, ShowsStop}
+use Rattle.demands.specs.Undisturbed.{SameOrNone}
 use Rattle.demands.proofs.History.AsTold.{outputs-as-told}
-use Rattle.demands.proofs.Runs.ByTheRules.{starts-by-the-rules, outputs-by-the-rules, ends-by-the-rules}
+use Rattle.demands.proofs.Runs.ByTheRules.{starts-by-the-rules, events-by-the-rules, outputs-by-the-rules, ends-by-the-rules}
 use Rattle.demands.proofs.Runs.Ends.{shows-stop, runs-so-long, ends-there}
 
 -- 02, item 10: "the outputs at every tick are the plan's" and "event 011 comes at the sum of the times". The box was started at line 000, and its program area
@@ -62,19 +63,16 @@ module _ (c : Course) (so : Started c) (first : c .line ≡ 0) (ns area : List �
       ∙ ap (λ (r : Run). r .outputs) (sym (after-ticks (programOf c) (count c) (startOf c)))
       ∙ ruled-outputs (count c) ∙ carries .words (count c) lt
 
-  -- The start raises no event,
-  pub no-event-at-start : told (begun c) .event ≡ told (c .before) .event
+  -- No event comes before: the start raises none,
+  start-raises-none : told (begun c) .event ≡ told (c .before) .event
   unfolding Ticking.after
-  no-event-at-start =
+  start-raises-none =
       let some = sum-some ns area (programOf c) words is in
       starts-by-the-rules c so .1 ∙ ap (λ e. if eqb e 0 then told (c .before) .event else e) (lasts .before 0 (omega arith) .event)
 
-  -- nor does a tick before the last;
-  pub no-event-before : count c + 1 < total (movesOf ns) → (a : Areas) → Ticks c a → told (ticked c a) .event ≡ told (now c) .event
-  no-event-before lt a t =
-      let x = tick-after (programOf c) (count c) (startOf c) in
-      ends-by-the-rules c so (rule-runs (omega arith)) a t .1
-      ∙ ap (λ e. if eqb e 0 then told (now c) .event else e) (ap (λ (y : Ran). y .event) x ∙ lasts .before (count c + 1) lt .event)
+  -- nor does any call as long as fewer ticks were taken: 212 has what it had before the start, or 0, where that was read;
+  pub no-event-before : count c < total (movesOf ns) → SameOrNone (told (now c) .event) (told (c .before) .event)
+  no-event-before lt = subst (SameOrNone (told (now c) .event)) start-raises-none (events-by-the-rules c so (rule-runs lt))
 
   module _ (last : count c + 1 ≡ total (movesOf ns)) (a : Areas) (t : Ticks c a) where
     -- with the last one event 011 comes: the program has ended, all outputs are off, and 212 and 211 show so.
