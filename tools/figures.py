@@ -126,7 +126,7 @@ def main():
 
 
 KINDS = [('code', r'crates/\w+/src/'), ('definitions', r'crates/\w+/specs/'), ('laws', r'crates/\w+/proofs/(\w+/)*(?!Proof\.)\w+\.antt$'),
-         ('walks that `tools/by_reference.py` writes', r'crates/nizhalepu/proofs/nizhalepu_(?!duration|explain)'), ('proofs of functions', r'crates/\w+/proofs/'),
+         ('walks that `tools/by_reference.py` writes', r'crates/nizhalepu/proofs/nizhalepu_(?!duration|explain|plan)'), ('proofs of functions', r'crates/\w+/proofs/'),
          ('edits', r'crates/\w+/must-fail/'), ('`model`, `independent`', r'(model|independent)/'), ('`host`, `run`', r'host/|run$'),
          ('`tools`', r'tools/'), ('papers', r'docs/|README'), ('other', r'')]
 

@@ -1,5 +1,7 @@
 #include "plans.h"
 
+#include "plan.h"
+
 #include <inttypes.h>
 #include <stdio.h>
 #include <string.h>
@@ -204,4 +206,18 @@ void order_print(const struct order *order)
         printf(i % 2 == 0 ? "%08" PRIX32 : "%" PRIu32, order->numbers[i]);
         if (last) putchar('\n');
     }
+}
+
+/* ---- both planners */
+
+void order_proved(const struct order *order, struct made *made)
+{
+    memcpy(made->area, order->area, ORDER_AREA_MOST);
+    made->refusal = nizhalepu_plan(order->numbers, order->count, made->area, order->length);
+}
+
+void order_independent(const struct order *order, struct made *made)
+{
+    memcpy(made->area, order->area, ORDER_AREA_MOST);
+    made->refusal = plan_program(order->numbers, order->count, made->area, order->length);
 }

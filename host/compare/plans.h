@@ -18,7 +18,16 @@ struct order { /* what is asked of a planner */
     size_t length;                /* that is lent */
 };
 
+struct made { /* by a planner */
+    uint8_t refusal;
+    uint8_t area[ORDER_AREA_MOST];
+};
+
 /* ---- plans.c */
+
+/* What the proved library and what the independent reading make of it. */
+void order_proved(const struct order *order, struct made *made);
+void order_independent(const struct order *order, struct made *made);
 
 /* Any plan: most are in order and have times at an edge, some are refused, for one reason or for several. */
 void order_make(struct order *order, struct chance *chance);

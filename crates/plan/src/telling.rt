@@ -15,9 +15,6 @@ use planner::Move;
 use plantext::Reader;
 use streams::Output;
 
-// The bytes of a program.
-const PROGRAM: usize = 1600;
-
 // Each function below puts text behind what is gathered in the block.
 
 // These bytes.
@@ -202,7 +199,7 @@ fn put_answer(
 fn put_told(output: Output, block: &mut [u8], plan: &[u32], check: bool) -> Output
     ensures follows { λ r. ⌜ Follows output (now (block .entry)) (told check (now (plan .entry))) r (now (block .exit)) ⌝ }
 {
-    let mut program = [0u8; PROGRAM];
+    let mut program = [0u8; lines::PROGRAM];
     let answer = planner::write(plan, &mut program);
     put_answer(output, block, plan, &program, check, answer)
 }
