@@ -2,8 +2,8 @@
 -- Assumes nothing.
 use mathlib.Core.Path.{_≡_, refl, sym, ap, ap₂, _∙_}
 use Prim.Native.Nat.{ℕ, _+_}
-use mathlib.Core.Logic.{_⊎_, inl, inr}
-use mathlib.Core.Bool.{Bool, true, false, not, _&&_, _||_, true≢false}
+use mathlib.Core.Logic.{inl, inr}
+use mathlib.Core.Bool.{Bool, true, false, not, _&&_, true≢false}
 use mathlib.Core.List.{List, [], _∷_}
 use mathlib.Core.Option.{Option, none, some}
 use lib.Dec.{eqb}
@@ -188,10 +188,12 @@ module _ (k : Call) (l : Areas) (t : Told) (on : t .run .on ≡ true) (unpressed
     where
       go : (j : Option ℕ) → starts k s l t ≡ j → ran k s l t .event ≡ 0
       go none e =
-          ap (λ (x : Ran). x .event) (none-quiet s e) ∙ ticked-quiet (ap (λ (x : Ran). x .run .on) (sym (none-quiet s e)) ∙ ap (λ (r : Run). r .on) (sym is) ∙ runs)
+          ap (λ (x : Ran). x .event) (none-quiet s e)
+          ∙ ticked-quiet (ap (λ (x : Ran). x .run .on) (sym (none-quiet s e)) ∙ ap (λ (r : Run). r .on) (sym is) ∙ runs)
       go (some j) e =
           ap (λ (x : Ran). x .event) (some-quiet s j e)
-          ∙ no-event _ (start-told (l .program) j (t .run .outputs)) (ap (λ (x : Ran). x .run .on) (sym (some-quiet s j e)) ∙ ap (λ (r : Run). r .on) (sym is) ∙ runs)
+          ∙ no-event _ (start-told (l .program) j (t .run .outputs))
+          (ap (λ (x : Ran). x .run .on) (sym (some-quiet s j e)) ∙ ap (λ (r : Run). r .on) (sym is) ∙ runs)
 
   -- so the event is as it was, or was read
   event-quiet : (s : Said) → Way s → afterwards k s l t .run .on ≡ true → SameOrNone (afterwards k s l t .event) (t .event)
