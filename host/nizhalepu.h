@@ -271,14 +271,18 @@ struct nizhalepu_stop {
 struct nizhalepu_stop nizhalepu_explain(const uint8_t *program, size_t program_length, uint64_t start, uint64_t limit);
 
 /* ---- an inclining plan as a program. It needs no record; the plan may be any numbers, of any count, and is only read;
- * the program area may have any length, and all of it is written or nothing.
+ * the area may have any length, of which all but NIZHALEPU_PROGRAM are refused, and all of it is written or nothing.
  *
  * A plan has 1 to NIZHALEPU_MOVES_MOST weight moves of four numbers each, one behind the other: the outputs while the
  * weight is moved and the ship settles (output n is bit n-1), for how many ticks, the outputs while the reading is
  * taken, and for how many ticks. Started at line 000 and not stopped, the program has these outputs at every tick,
  * those in pauses not counted, and comes to its end, event 011 with all outputs off, at the sum of the times.
  *
- * Answers 0, or the first refusal that applies, and then every byte of the area is as it was. */
+ * plan_count is the number of numbers, four for each move, and not that of the moves: 4, 8, ... 64. An array of structs
+ * of four uint32_t may be lent as these numbers. Lend the saved copy or an area of your own for the program, and have the
+ * box take it by power-on or by special command 007; never the program area of a box that is on.
+ *
+ * Answers 0, or the first refusal that applies; a refused call leaves every byte of the area as it was. */
 
 enum {
     /* NIZHALEPU_BAD_PROGRAM, 30, is the first */
