@@ -54,7 +54,8 @@ OF_THE_CODE = ('calls/Outcome', 'calls/Kept', 'nizhalepu/Agreement')
 COMPUTED = ('demands/Worked', 'demands/Applied')
 # the modules of rows that the computed theorems speak of
 ROWS = tuple(f'crates/demands/specs/{name}.antt' for name in
-             ('Points', 'CallsTable', 'WireTable', 'VariablesTable', 'RunningTable', 'LogTable', 'Tables', 'Scripts'))
+             ('Points', 'CallsTable', 'WireTable', 'VariablesTable', 'RunningTable', 'LogTable', 'Tables', 'RefusedCalls',
+              'RunScripts', 'Scripts'))
 CALLED = ('crates/calls/src/lib.rt', 'crates/nizhalepu/src/lib.rt')
 # the programs whose contracts say what they tell; that of `bench` stands in `console`
 PROGRAMS = ('crates/console/src/lib.rt', 'crates/durations/src/main.rt', 'crates/explain/src/telling.rt', 'crates/plan/src/telling.rt', 'crates/plan/src/main.rt')

@@ -26,4 +26,6 @@ pub mod Sent
 pub mod Walks
 pub mod Premises
 pub mod Applying
+pub mod RefusedCalls
+pub mod RunScripts
 pub mod Scripts

@@ -1,10 +1,8 @@
 // The two lines that are told of a program, gathered for output. Definitions: specs/Telling.antt.
 ghost use mathlib.Core.Bool.{true};
 ghost use mathlib.Core.List.{_++_};
-ghost use Prim.Native.Nat.{_≤_};
 ghost use mathlib.Core.Path.{_≡_};
 ghost use lib.ListN.{length};
-ghost use Rattle.formats.specs.Digits.{shown};
 ghost use Rattle.streams.specs.Gathering.{gathered, Follows};
 ghost use Rattle.explanation.specs.Report.{report, answerOf};
 ghost use Rattle.explanation.specs.declared.Cause.the-variants.{ForLine, Sought, StateLine};
@@ -15,32 +13,17 @@ use explanation::Cause;
 use explanation::Stop;
 use lines::Line;
 use streams::Output;
+use streams::gather::put;
+use streams::gather::put_digits;
 
 // Each function below puts text behind what is gathered in the block.
-
-// These bytes.
-fn put(output: Output, block: &mut [u8], bytes: &[u8]) -> Output
-    ensures follows { λ r. ⌜ Follows output (now (block .entry)) (now (bytes .entry)) r (now (block .exit)) ⌝ }
-{
-    output.put(block, bytes)
-}
-
-// A number in n decimal digits, its last ones: three for a line or an event, one for a counter.
-fn put_digits(output: Output, block: &mut [u8], n: usize, v: u64) -> Output
-    requires { ⌜ n ≤ 3 ⌝ }
-    ensures follows { λ r. ⌜ Follows output (now (block .entry)) (shown 10 n v) r (now (block .exit)) ⌝ }
-{
-    let mut digits = [0u8; 3];
-    let m = formats::put_digits(&mut digits, 0, 10, n, v);
-    output.put_first(block, &digits, m)
-}
 
 // Ticks as seconds.
 fn put_seconds(output: Output, block: &mut [u8], ticks: u64) -> Output
     ensures follows { λ r. ⌜ Follows output (now (block .entry)) (seconds ticks) r (now (block .exit)) ⌝ }
 {
     let whole = output.put_number(block, ticks / 10, b'.');
-    put_digits(whole, block, 1, ticks)
+    put_digits(whole, block, 10, 1, ticks)
 }
 
 // A line as a read of it over the wire answers.
@@ -63,15 +46,15 @@ fn put_cause(output: Output, block: &mut [u8], cause: Cause) -> Output
     ensures follows { λ r. ⌜ Follows output (now (block .entry)) (causeField cause) r (now (block .exit)) ⌝ }
 {
     match cause {
-        Cause::ForLine(k) => put_digits(output, block, 3, k as u64),
-        Cause::Sought(c) => put_digits(output, block, 1, c as u64),
+        Cause::ForLine(k) => put_digits(output, block, 10, 3, k as u64),
+        Cause::Sought(c) => put_digits(output, block, 10, 1, c as u64),
         Cause::ForAbove(yes) => {
             if yes {
                 return put(output, block, b"yes");
             }
             put(output, block, b"no")
         }
-        Cause::StateLine(k) => put_digits(output, block, 3, k as u64),
+        Cause::StateLine(k) => put_digits(output, block, 10, 3, k as u64),
         Cause::Nothing => put(output, block, b"-"),
     }
 }
@@ -80,10 +63,10 @@ fn put_cause(output: Output, block: &mut [u8], cause: Cause) -> Output
 fn put_fields(output: Output, block: &mut [u8], stop: Stop) -> Output
     ensures follows { λ r. ⌜ Follows output (now (block .entry)) (fields stop) r (now (block .exit)) ⌝ }
 {
-    let event = put_digits(output, block, 3, stop.event as u64);
+    let event = put_digits(output, block, 10, 3, stop.event as u64);
     let one = put(event, block, b" ");
     let tick = one.put_number(block, stop.tick as u64, b' ');
-    let line = put_digits(tick, block, 3, stop.line as u64);
+    let line = put_digits(tick, block, 10, 3, stop.line as u64);
     let three = put(line, block, b" ");
     let cause = stop.cause;
     put_cause(three, block, cause)
@@ -110,9 +93,9 @@ fn put_busy(output: Output, block: &mut [u8], k: u8, line: u8, c: u8) -> Output
     ensures follows { λ r. ⌜ Follows output (now (block .entry)) (reason (ForLine k) 6 line c) r (now (block .exit)) ⌝ }
 {
     let a = put(output, block, b"counter ");
-    let counter = put_digits(a, block, 1, c as u64);
+    let counter = put_digits(a, block, 10, 1, c as u64);
     let b = put(counter, block, b" was still in use by the For on line ");
-    let holder = put_digits(b, block, 3, k as u64);
+    let holder = put_digits(b, block, 10, 3, k as u64);
     let d = put(holder, block, b". ");
     put_busy_advice(d, block, k, line)
 }
@@ -122,9 +105,9 @@ fn put_sought(output: Output, block: &mut [u8], n: u8) -> Output
     ensures follows { λ r. ⌜ Follows output (now (block .entry)) (reason (Sought n) 7 0 0) r (now (block .exit)) ⌝ }
 {
     let a = put(output, block, b"no Next of counter ");
-    let counter = put_digits(a, block, 1, n as u64);
+    let counter = put_digits(a, block, 10, 1, n as u64);
     let b = put(counter, block, b" stands on a later line. Write N");
-    let again = put_digits(b, block, 1, n as u64);
+    let again = put_digits(b, block, 10, 1, n as u64);
     put(again, block, b" on the line where the loop ends.")
 }
 
@@ -134,7 +117,7 @@ fn put_above(output: Output, block: &mut [u8], yes: bool, c: u8) -> Output
 {
     if yes {
         let a = put(output, block, b"counter ");
-        let counter = put_digits(a, block, 1, c as u64);
+        let counter = put_digits(a, block, 10, 1, c as u64);
         return put(
             counter,
             block,
@@ -142,7 +125,7 @@ fn put_above(output: Output, block: &mut [u8], yes: bool, c: u8) -> Output
         );
     }
     let a = put(output, block, b"no For of counter ");
-    let counter = put_digits(a, block, 1, c as u64);
+    let counter = put_digits(a, block, 10, 1, c as u64);
     put(
         counter,
         block,
@@ -159,7 +142,7 @@ fn put_over(output: Output, block: &mut [u8], k: u8) -> Output
         block,
         b"more than 400 For and Next lines fell due in one tick, behind the State on line ",
     );
-    let state = put_digits(a, block, 3, k as u64);
+    let state = put_digits(a, block, 10, 3, k as u64);
     put(
         state,
         block,
@@ -219,7 +202,7 @@ fn put_stop(output: Output, block: &mut [u8], l: Line, stop: Stop) -> Output
     let a = put(output, block, b"Stopped after ");
     let time = put_seconds(a, block, stop.tick as u64);
     let b = put(time, block, b" s on line ");
-    let number = put_digits(b, block, 3, stop.line as u64);
+    let number = put_digits(b, block, 10, 3, stop.line as u64);
     let d = put(number, block, b" (");
     let read = put_read(d, block, l);
     let e = put(read, block, b"): ");

@@ -9,13 +9,13 @@ use mathlib.Core.List.{List, map}
 use lib.ListN.{length, take, length-map}
 use lib.Seq.{length-take-le, take-all}
 use lib.Dec.{leb, eqb}
-use borrow.Author.Tests.{le-leb, leb-true, leb-false}
+use borrow.Author.Tests.{leb-true, leb-false}
 use Rattle.formats.specs.Checks.{Res, refused, passed, all, _>>_, _orElse_}
 use Rattle.formats.proofs.Checks.{both-true, by-both, not-so}
 use Rattle.planner.specs.declared.Move.{Move}
-use Rattle.planner.specs.Plan.{movesOf, mostTime, isTime, isTimed, InRange}
+use Rattle.planner.specs.Plan.{movesOf, isTime, isTimed}
 use Rattle.planner.specs.Planned.{isCounted, planned}
-use Rattle.planner.proofs.Moves.{time-is, counted-is}
+use Rattle.planner.proofs.Moves.{time-is, time-so, counted-is}
 use Rattle.plantext.specs.Kept.{room, capped, kept}
 use Rattle.plantext.proofs.Keeping.{capped-same}
 use Rattle.plan.specs.Telling.{toldOf, told, zeros}
@@ -23,9 +23,6 @@ use Rattle.plan.specs.Reading.{Worded, none, more}
 use Rattle.plan.proofs.Answers.{passed-is}
 
 -- ---- a number
-
-time-so : (t : ℕ) → InRange t → isTime t ≡ true
-time-so t (some, few) = rw (le-leb 1 t some, le-leb t mostTime few)
 
 -- none that is larger is a time
 time-kept : (t : ℕ) → isTime (capped t) ≡ isTime t

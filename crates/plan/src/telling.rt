@@ -3,7 +3,6 @@ ghost use mathlib.Core.Bool.{true};
 ghost use Prim.Native.Nat.{_+_, _*_, _≤_, _<_};
 ghost use mathlib.Core.Path.{_≡_};
 ghost use lib.ListN.{length, take};
-ghost use Rattle.formats.specs.Digits.{shown, decimal};
 ghost use Rattle.streams.specs.Gathering.{gathered, Follows};
 ghost use Rattle.planner.specs.declared.Answer.the-variants.{Written};
 ghost use Rattle.planner.specs.Plan.{movesOf};
@@ -14,34 +13,11 @@ use planner::Answer;
 use planner::Move;
 use plantext::Reader;
 use streams::Output;
+use streams::gather::put;
+use streams::gather::put_decimal;
+use streams::gather::put_digits;
 
 // Each function below puts text behind what is gathered in the block.
-
-// These bytes.
-fn put(output: Output, block: &mut [u8], bytes: &[u8]) -> Output
-    ensures follows { λ r. ⌜ Follows output (now (block .entry)) (now (bytes .entry)) r (now (block .exit)) ⌝ }
-{
-    output.put(block, bytes)
-}
-
-// A number in n digits to a base: eight to the base 16 for a word, two for the number of a move.
-fn put_digits(output: Output, block: &mut [u8], base: u64, n: usize, v: u64) -> Output
-    requires { ⌜ (n ≤ 8) × (1 < base) × (base ≤ 16) ⌝ }
-    ensures follows { λ r. ⌜ Follows output (now (block .entry)) (shown base n v) r (now (block .exit)) ⌝ }
-{
-    let mut digits = [0u8; 8];
-    let m = formats::put_digits(&mut digits, 0, base, n, v);
-    output.put_first(block, &digits, m)
-}
-
-// A number in decimal, without leading zeros.
-fn put_decimal(output: Output, block: &mut [u8], v: u64) -> Output
-    ensures follows { λ r. ⌜ Follows output (now (block .entry)) (decimal v) r (now (block .exit)) ⌝ }
-{
-    let mut digits = [0u8; 20];
-    let m = formats::put_decimal(&mut digits, 0, v);
-    output.put_first(block, &digits, m)
-}
 
 // ---- the table
 

@@ -10,7 +10,7 @@ use borrow.Author.Tests.{ltb-true, ltb-false, eqb-true, eqb-false}
 use Rattle.lines.specs.declared.Line.the-variants.{State, For, Next}
 use Rattle.lines.specs.Line.{isNext}
 use Rattle.lines.specs.Program.{lineAt, FirstFrom}
-use Rattle.lines.proofs.Pairs.{state-no-next, state-no-for, for-no-next, next-ranged}
+use Rattle.lines.proofs.Pairs.{state-no-for, for-no-next, next-ranged}
 use Rattle.running.specs.declared.Run.{Run}
 use Rattle.running.specs.declared.Ran.{Ran}
 use Rattle.running.specs.declared.Step.{Step}
@@ -22,6 +22,7 @@ use Rattle.running.proofs.Arriving.{goes-to}
 use Rattle.running.proofs.Gone.{any-moment, busy-line}
 use Rattle.running.proofs.Coming.{every-so, moment-going}
 use Rattle.running.proofs.Invariant.{begun-going}
+use Rattle.planner.proofs.Found.{two-on}
 use Rattle.planner.proofs.Shape.{Around, aState, aFor, aNext, LoopAt}
 
 module _ (p : List ℕ) (shaped : (k : ℕ) → k < 200 → Around p 200 k) where
@@ -35,15 +36,7 @@ module _ (p : List ℕ) (shaped : (k : ℕ) → k < 200 → Around p 200 k) wher
   end-last r s e loop is left n = ap (λ (x : Ran). x .lines) (loop-ends p r loop left n e (ap (λ (y : Step). y .how) is))
 
   pub pairing : (k c x : ℕ) → LoopAt p 200 k c x → FirstFrom p c (k + 1) (k + 2)
-  pairing k c x l =
-      record {
-        notBefore = omega arith;
-        inProgram = l .inside;
-        next = l .next;
-        noneBetween = λ j from to is.
-            let e : j ≡ k + 1 = omega arith in
-            state-no-next (sym (l .state) ∙ sym (ap (lineAt p) e) ∙ is);
-      }
+  pairing k c x l = two-on p k c (l .state) (l .next) (l .inside)
 
   -- behind a For stands a State
   for-one : (r : Run) (c x : ℕ) → LoopAt p 200 (r .line) c x → (left n : ℕ) → runDue p (suc left) n r .lines ≡ n + 1

@@ -13,7 +13,8 @@ use borrow.Author.Tests.{ltb-true, ltb-false, eqb-true, eqb-false}
 use Rattle.lines.specs.declared.Line.{Line}
 use Rattle.lines.specs.declared.Line.the-variants.{State, For, Next, Bad}
 use Rattle.lines.specs.Line.{endMark, readLine, bytesOf, Fits}
-use Rattle.lines.specs.Program.{lineAt, IsProgram}
+use Rattle.lines.specs.Program.{lineAt, FirstFrom, IsProgram}
+use Rattle.lines.proofs.Pairs.{state-no-next}
 use Rattle.lines.proofs.Lines.{bytes-back, length-bytes}
 use Rattle.planner.specs.declared.Move.{Move}
 use Rattle.planner.specs.Plan.{InRange, IsWord, Proper, AllProper}
@@ -72,6 +73,18 @@ module _ {p : List ℕ} {i : ℕ} {l : Line} {ls : List Line} (s : Stand p i (l 
 
   pub stands-behind : Stand p (i + 1) ls
   stands-behind = stand-rest (l ∷ []) ls s (omega arith)
+
+-- the Next of a loop of one State
+pub two-on : (p : List ℕ) (k c : ℕ) {o t : ℕ} → lineAt p (k + 1) ≡ State o t → lineAt p (k + 2) ≡ Next c → k + 2 < 200 → FirstFrom p c (k + 1) (k + 2)
+two-on p k c state next inside =
+    record {
+      notBefore = omega arith;
+      inProgram = inside;
+      next = next;
+      noneBetween = λ j from to is.
+          let e : j ≡ k + 1 = omega arith in
+          state-no-next (sym state ∙ sym (ap (lineAt p) e) ∙ is);
+    }
 
 -- ---- the lines of a plan
 

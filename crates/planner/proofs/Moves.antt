@@ -7,7 +7,7 @@ use mathlib.Core.Bool.{true, false}
 use mathlib.Core.List.{List, [], _∷_, _++_, append-assoc, append-nil}
 use lib.ListN.{length, drop, getD, drop-of-length-le}
 use lib.Seq.{drop-cons}
-use borrow.Author.Tests.{leb-true, eqb-true}
+use borrow.Author.Tests.{leb-true, le-leb, eqb-true}
 use Rattle.formats.specs.Checks.{all}
 use Rattle.formats.proofs.Checks.{both-true}
 use Rattle.lines.specs.declared.Line.{Line}
@@ -61,6 +61,9 @@ counted-is ns so =
 
 pub time-is : (t : ℕ) → isTime t ≡ true → InRange t
 time-is t so = let a = both-true _ _ so in (leb-true 1 t (a .0), leb-true t mostTime (a .1))
+
+pub time-so : (t : ℕ) → InRange t → isTime t ≡ true
+time-so t so = rw (le-leb 1 t (so .0), le-leb t mostTime (so .1))
 
 pub timed-is : (m : Move) → isTimed m ≡ true → Timed m
 timed-is m so = let a = both-true _ _ so in record { settling = time-is (m .settling) (a .0); reading = time-is (m .reading) (a .1) }

@@ -12,7 +12,6 @@ use borrow.Author.Tests.{ltb-true, ltb-false, eqb-true, eqb-false}
 use Rattle.lines.specs.declared.Line.{Line}
 use Rattle.lines.specs.declared.Line.the-variants.{State, For, Next}
 use Rattle.lines.specs.Program.{lineAt, FirstFrom}
-use Rattle.lines.proofs.Pairs.{state-no-next}
 use Rattle.running.specs.declared.Counter.{Counter}
 use Rattle.running.specs.declared.Run.{Run}
 use Rattle.running.specs.declared.Ran.{Ran}
@@ -30,7 +29,7 @@ use Rattle.planner.proofs.Laying.{short-lines, long-lines, no-remainder
 use Rattle.planner.proofs.Words.{word-settles, word-reads, word-later}
 use Rattle.planner.proofs.Shape.{program-around}
 use Rattle.planner.proofs.Calm.{few-due}
-use Rattle.planner.proofs.Found.{Stand, stand-first, stand-rest, stands-here, stands-behind, stand-plan, stand-ends, plan-few}
+use Rattle.planner.proofs.Found.{two-on, Stand, stand-first, stand-rest, stands-here, stands-behind, stand-plan, stand-ends, plan-few}
 
 -- The program runs on, and the outputs are the word.
 pub record Has (w : ℕ) (x : Ran) : Type 0 where
@@ -61,15 +60,7 @@ module _ (p : List ℕ) where
     next-line = let e : i + 1 + 1 ≡ i + 2 = omega arith in ap (lineAt p) (sym e) ∙ stands-here (stands-behind (stands-behind s))
 
     pairing : FirstFrom p 1 (i + 1) (i + 2)
-    pairing =
-        record {
-          notBefore = omega arith;
-          inProgram = omega arith;
-          next = next-line;
-          noneBetween = λ j from to is.
-              let e : j ≡ i + 1 = omega arith in
-              state-no-next (sym state-line ∙ sym (ap (lineAt p) e) ∙ is);
-        }
+    pairing = two-on p i 1 state-line next-line (omega arith)
 
     loop-passes : Stretch p (λ m. Has w) i (turns * 9999) (i + 3) allFree 3
     loop-passes =

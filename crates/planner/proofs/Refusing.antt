@@ -12,11 +12,11 @@ use Rattle.formats.specs.Checks.{refused, passed, all}
 use Rattle.formats.specs.Order.{First}
 use Rattle.formats.proofs.Checks.{rule-refuses, rule-fails}
 use Rattle.formats.proofs.Refusals.{Check, checkAt, Worded, told-first, first-told, passed-none}
-use Rattle.planner.specs.Plan.{movesOf, isTime, isTimed, InRange, mostTime}
+use Rattle.planner.specs.Plan.{movesOf, isTime, isTimed, InRange}
 use Rattle.planner.specs.Lines.{programOf}
 use Rattle.planner.specs.Planned.{isCounted, planned}
 use Rattle.planner.specs.Reasons.{Whole, OutOfRange, settles, reads, Reason, e030, e070, e071, place}
-use Rattle.planner.proofs.Moves.{counted-is, time-is}
+use Rattle.planner.proofs.Moves.{counted-is, time-is, time-so}
 use Rattle.planner.proofs.Order as Order
 use Rattle.planner.proofs.Order.{by-checks}
 
@@ -40,7 +40,7 @@ counted-whole ns so = let a = counted-is ns so in record { numbers = sym (a .0);
 -- ---- times
 
 no-time : (t : ℕ) → isTime t ≡ false → InRange t → ⊥
-no-time t fails so = true≢false (sym (rw (le-leb 1 t (so .0), le-leb t mostTime (so .1))) ∙ fails)
+no-time t fails so = true≢false (sym (time-so t so) ∙ fails)
 
 time-no : (t : ℕ) → (InRange t → ⊥) → isTime t ≡ false
 time-no t not = go (isTime t) refl

@@ -13,6 +13,7 @@ use libc::STDERR_FILENO;
 use libc::STDOUT_FILENO;
 
 pub mod arguments;
+pub mod gather;
 pub mod input;
 
 // The state of standard output. The block that goes with it is lent to each call.

@@ -1,10 +1,10 @@
--- `explain::telling::put_digits` meets its contract: the digits are those at the start of an array.
+-- `streams::gather::put_digits` meets its contract: the digits are those at the start of an array.
 -- Assumes nothing.
 use Rattle.formats.proofs.Writing.{wrote-start}
 use Rattle.streams.proofs.Following.{puts-follows}
 use borrow.Author.Needs.{needs}
-use Rattle.explain.proofs.telling.put_digits.Statement.{statement}
-use Rattle.explain.proofs.telling.put_digits.Tie as tie
+use Rattle.streams.proofs.gather.put_digits.Statement.{statement}
+use Rattle.streams.proofs.gather.put_digits.Tie as tie
 
 slice-aggregate-put-digits : tie.Need-slice-aggregate-put-digits
 slice-aggregate-put-digits c = search needs

@@ -1,11 +1,11 @@
--- `plan::telling::put_decimal` meets its contract: the digits are those at the start of an array.
+-- `streams::gather::put_decimal` meets its contract: the digits are those at the start of an array.
 -- Assumes nothing.
 use Rattle.formats.proofs.Decimals.{decimal-long}
 use Rattle.formats.proofs.Writing.{wrote-start}
 use Rattle.streams.proofs.Following.{puts-follows}
 use borrow.Author.Needs.{needs}
-use Rattle.plan.proofs.telling.put_decimal.Statement.{statement}
-use Rattle.plan.proofs.telling.put_decimal.Tie as tie
+use Rattle.streams.proofs.gather.put_decimal.Statement.{statement}
+use Rattle.streams.proofs.gather.put_decimal.Tie as tie
 
 slice-aggregate-put-decimal : tie.Need-slice-aggregate-put-decimal
 slice-aggregate-put-decimal c = search needs

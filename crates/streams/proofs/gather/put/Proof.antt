@@ -1,9 +1,9 @@
--- `explain::telling::put` meets its contract: as one put.
+-- `streams::gather::put` meets its contract: as one put.
 -- Assumes nothing.
 use Rattle.streams.proofs.Following.{puts-follows}
 use borrow.Author.Needs.{needs}
-use Rattle.explain.proofs.telling.put.Statement.{statement}
-use Rattle.explain.proofs.telling.put.Tie as tie
+use Rattle.streams.proofs.gather.put.Statement.{statement}
+use Rattle.streams.proofs.gather.put.Tie as tie
 
 put-requires : tie.Need-put-requires
 put-requires c κs = search needs
