@@ -1,6 +1,8 @@
 // What a finished command asks for, and the reply to it, which is written straight into the area that is lent for it.
 // Definitions: those of the layer `controller`, specs/Deeds.antt, of every state that has the parts which a function is given. An area that a
 // function is not lent stays, whatever it holds.
+#![tactic(auto)]
+
 ghost use Rattle.std.specs.Prelude.{◌≡◌, ◌≤◌, length};
 ghost use Rattle.lines.specs.Program.{IsProgram};
 ghost use Rattle.formats.specs.Checks.{text};

@@ -1,6 +1,8 @@
 // Switching totals: how often each of the 32 channels closed and opened, and for how many ticks it was closed, by logs in the order of their emptying.
 // Definitions: specs/Totals.antt for what the records of a log say of a channel, specs/Bringing.antt for what comes of a log.
 // The function that brings the caller's records forward where they stand is in the crate nizhalepu; here are its parts, and the same by value.
+#![tactic(auto)]
+
 ghost use Rattle.std.specs.Prelude.{◌≡◌, true, not, ◌+◌, ◌*◌, ◌≤◌, ◌<◌, length};
 ghost use Rattle.formats.specs.Checks.{refused as refused_with};
 ghost use Rattle.reader.specs.declared.Layout.TheVariants.{Sixteen};
@@ -16,7 +18,7 @@ mod gains;
 
 // The record of a channel: how often it closed and opened, and the ticks for which it was closed.
 #[repr(C)]
-#[derive(Drop)]
+#[derive(Clone, Copy)]
 pub struct Channel {
     pub closings: u64,
     pub openings: u64,
@@ -25,7 +27,7 @@ pub struct Channel {
 
 // What is kept beside the 32 records: tick and word of the last record read, how many changes the logs lost, and whether it may be more.
 #[repr(C)]
-#[derive(Drop)]
+#[derive(Clone, Copy)]
 pub struct Beside {
     pub tick: u32,
     pub word: u32,
@@ -35,7 +37,7 @@ pub struct Beside {
 
 // The number of the refusal, 0 where there is none, and what is kept beside the records then.
 #[repr(C)]
-#[derive(Drop)]
+#[derive(Clone, Copy)]
 pub struct Answer {
     pub refusal: u8,
     pub beside: Beside,
@@ -43,7 +45,7 @@ pub struct Answer {
 
 // What the records of a log bring a channel: closings, openings, and the ticks for which it was closed. While they are counted, the last are those up
 // to `since`, the tick at which it was switched last.
-#[derive(Drop)]
+#[derive(Clone, Copy)]
 pub struct Gain {
     pub closings: u32,
     pub openings: u32,
@@ -52,7 +54,7 @@ pub struct Gain {
 }
 
 // What a log brings the channels, and what is kept beside their records then; or the number of its refusal, and the rest means nothing.
-#[derive(Drop)]
+#[derive(Clone, Copy)]
 pub struct Counts {
     pub refusal: u8,
     pub gains: [Gain; 32],
@@ -60,14 +62,14 @@ pub struct Counts {
 }
 
 // A channel's record brought forward; or as it was, where a total would pass the end.
-#[derive(Drop)]
+#[derive(Clone, Copy)]
 pub struct Moved {
     pub fits: bool,
     pub channel: Channel,
 }
 
 // The 32 records by value, and the answer.
-#[derive(Drop)]
+#[derive(Clone, Copy)]
 pub struct Held {
     pub channels: [Channel; 32],
     pub answer: Answer,

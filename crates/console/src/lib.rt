@@ -2,6 +2,8 @@
 // goes to the wire, and the replies are gathered and go out before more input is waited for.
 // What each byte does, to the box, to every lent byte and to what is gathered, is in contracts, by specs/Inputs.antt; which bytes were read, and which
 // went out, is in none, since C's have none.
+#![tactic(auto)]
+
 ghost use Rattle.std.specs.Prelude.{true, ◌≡◌, ◌≤◌, length};
 ghost use Rattle.controller.specs.Invariant.{Invariant};
 ghost use Rattle.controller.specs.Refusals.{byte};
@@ -12,7 +14,7 @@ use streams::input::Input;
 use streams::{Output, arguments};
 
 // The box and its output after some input, and whether there may be more.
-#[derive(Drop)]
+#[derive(Clone, Copy)]
 pub struct Next {
     pub held: SwitchBox,
     pub output: Output,

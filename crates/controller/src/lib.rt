@@ -1,5 +1,7 @@
 // The controller: the state that passes through every call by value. What the five calls do with it is defined in specs/; the code
 // that does it is in deeds, answers and calls, and the parts that `calls` alters are set here.
+#![tactic(auto)]
+
 ghost use Rattle.std.specs.Prelude.{◌≡◌};
 ghost use Rattle.controller.specs.Controller.{with_panel, with_log, with_wire};
 
@@ -9,7 +11,7 @@ use variables::Panel;
 use wire::Wire;
 
 #[repr(C)]
-#[derive(Drop)]
+#[derive(Clone, Copy)]
 pub struct Controller {
     pub run: Run,
     pub paused: bool,

@@ -1,5 +1,7 @@
 // How long a program takes from a start at line 000 to event 011, or why that is not told: 02, item 6.
 // Definitions: specs/Report.antt for the answer and its refusals, specs/ByTheRule.antt for what the number is proved to be.
+#![tactic(auto)]
+
 ghost use Rattle.std.specs.Prelude.{◌≡◌, ◌+◌};
 ghost use Rattle.duration.specs.Report.{report, answer_of};
 ghost use Rattle.duration.specs.Total.{adds, capped_total, told_total};
@@ -8,7 +10,7 @@ mod nesting;
 mod sums;
 
 // The ticks that a program takes, or the number of the refusal.
-#[derive(Drop)]
+#[derive(Clone, Copy)]
 pub enum Answer {
     Takes(u64),
     Refused(u8),

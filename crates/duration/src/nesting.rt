@@ -8,7 +8,7 @@ ghost use Rattle.duration.specs.Walk.{is_across, is_across_one, walked_line, Wal
 use lines::Line;
 
 // The Next of the last For of each counter, and whether a tangle was found.
-#[derive(Drop)]
+#[derive(Clone, Copy)]
 pub struct Walk {
     pub nexts: [u8; 4],
     pub fault: bool,

@@ -9,7 +9,7 @@ use crate::Answer;
 use lines::Line;
 
 // The ticks of a run of lines, up to one more than are told, and whether an idle loop, or a Bad line, is in it.
-#[derive(Drop)]
+#[derive(Clone, Copy)]
 pub struct Sum {
     pub ticks: u64,
     pub idle: bool,

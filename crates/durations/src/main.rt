@@ -1,6 +1,8 @@
 // The program durations of 02: programs of 1,600 bytes, one behind the other, from the files that its arguments name or from standard input; on
 // standard output how many ticks each takes, or why that is not told, and then the grand total, a line each. No more than one program is kept.
 // What is told of a program is in contracts, by specs/Telling.antt; which bytes were read, and which went out, is in none, since C's have none.
+#![tactic(auto)]
+
 ghost use Rattle.streams.specs.Gathering.{Puts};
 ghost use Rattle.durations.specs.Telling.{line_of, Tells, Turns, Ends, TellsTotal};
 
@@ -9,14 +11,14 @@ use streams::input::Input;
 use streams::{Output, arguments};
 
 // The output and the total after a program.
-#[derive(Drop)]
+#[derive(Clone, Copy)]
 struct Tally {
     output: Output,
     total: u64,
 }
 
 // The same, what is left of the input, and whether there may be another program.
-#[derive(Drop)]
+#[derive(Clone, Copy)]
 struct Progress {
     input: Input,
     output: Output,

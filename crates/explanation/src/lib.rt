@@ -1,5 +1,7 @@
 // How a program that is started at a line stops, and why, or that it still runs after so many ticks: 02, item 9.
 // Definitions: specs/Report.antt for the answer and its refusals, specs/Facts.antt for what it is proved to be.
+#![tactic(auto)]
+
 ghost use Rattle.std.specs.Prelude.{◌≡◌, true, ◌≤◌, ◌<◌};
 ghost use Rattle.formats.specs.Checks.{passed};
 ghost use Rattle.lines.specs.Program.{IsProgram};
@@ -13,7 +15,7 @@ use running::{How, Ran, Run, known};
 mod causes;
 
 // Why a program stopped.
-#[derive(Drop)]
+#[derive(Clone, Copy)]
 pub enum Cause {
     // 006: the line of the For that holds the counter
     ForLine(u8),
@@ -28,7 +30,7 @@ pub enum Cause {
 }
 
 // How a program stopped: the event, its tick from the start, which is tick 0, the line and the cause.
-#[derive(Drop)]
+#[derive(Clone, Copy)]
 pub struct Stop {
     pub event: u8,
     pub tick: u32,
@@ -36,7 +38,7 @@ pub struct Stop {
     pub cause: Cause,
 }
 
-#[derive(Drop)]
+#[derive(Clone, Copy)]
 pub enum Answer {
     Refused(u8),
     // still running

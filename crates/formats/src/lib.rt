@@ -2,6 +2,8 @@
 // characters, and text that is written into an area.
 // Definitions: specs/Digits.antt for what a number's digits are, specs/Bytes.antt for bytes in a row, specs/Numbers.antt for what the types
 // below stand for, specs/Writing.antt for what writing into an area leaves there.
+#![tactic(auto)]
+
 ghost use Rattle.std.specs.Prelude.{◌≡◌, [], ◌∷◌, ◌++◌, ℕ, ◌+◌, ◌*◌, ◌≤◌, ◌<◌, min, length, take, drop};
 ghost use Rattle.formats.specs.Digits.{number, digit_value, digit_char, shown, number_in, h_in, d_in, width, most_digits, decimal, decimal_in, error_text};
 ghost use Rattle.formats.specs.Bytes.{bytes};
@@ -9,21 +11,21 @@ ghost use Rattle.formats.specs.Numbers.{number_or, most_written, written_or, byt
 ghost use Rattle.formats.specs.Writing.{Wrote};
 
 // What characters stand for: a number, or none, which has its error's number from who asked.
-#[derive(Drop)]
+#[derive(Clone, Copy)]
 pub enum Number {
     Is(u32),
     No,
 }
 
 // What a person wrote: a number, of which the largest stands for itself and every larger one; or no number.
-#[derive(Drop)]
+#[derive(Clone, Copy)]
 pub enum Written {
     Is(u64),
     No,
 }
 
 // What the data of a write stand for: a byte, or the number of the error.
-#[derive(Drop)]
+#[derive(Clone, Copy)]
 pub enum Byte {
     Is(u8),
     Error(u8),

@@ -1,5 +1,7 @@
 // A line of the program: what its eight bytes say, how it is written back, and the search for a Next among 200 of them.
 // 01, 'Variables': "A line is 8 bytes."
+#![tactic(auto)]
+
 ghost use Rattle.std.specs.Prelude.{◌≡◌, ◌&&◌, ◌+◌, ◌*◌, ◌≤◌, ◌<◌, length, eqb, leb};
 ghost use Rattle.formats.specs.Checks.{if◌then◌else◌};
 ghost use Rattle.lines.specs.declared.Line.TheVariants.{State, For, Next, Bad};
@@ -7,7 +9,7 @@ ghost use Rattle.lines.specs.Line.{end_mark, is_counter, is_end, is_bad, for_cou
 ghost use Rattle.lines.specs.Program.{IsProgram, line_at, put_line, is_next_of, next_after};
 ghost use Rattle.lines.specs.Loops.{end_line};
 
-#[derive(Drop)]
+#[derive(Clone, Copy)]
 pub enum Line {
     State { outputs: u32, time: u16 },
     For { counter: u8, count: u16 },

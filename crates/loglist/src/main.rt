@@ -1,5 +1,7 @@
 // The program loglist of 02: the emptied log, from the file that its argument names or from standard input, as text on standard output. Nothing
 // goes out before all of it is checked.
+#![tactic(auto)]
+
 use streams::input::Input;
 use streams::{Output, arguments};
 

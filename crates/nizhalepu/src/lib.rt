@@ -2,6 +2,8 @@
 // takes, how and why one stops, the program of an inclining plan, and the caller's channel records brought forward: a library for C.
 // Each of the five calls the method of the box and stores the box that this returned. Definition: `call` of controller/specs/Calls.antt, as for the
 // by-value calls; specs/InRecord.antt for what stays in the record and what is said beside it. The header is host/nizhalepu.h.
+#![tactic(auto)]
+
 ghost use Rattle.std.specs.Prelude.{◌≡◌, [], length};
 ghost use Rattle.controller.specs.Controller.{fresh};
 ghost use Rattle.controller.specs.Refusals.{power_on, byte, tick, press, emptying};
@@ -25,7 +27,7 @@ use duration::Answer;
 
 // What a call says; the state stays in the record.
 #[repr(C)]
-#[derive(Drop)]
+#[derive(Clone, Copy)]
 pub struct Said {
     // the number of the refusal, 0 where the call is accepted
     pub refusal: u8,
@@ -141,7 +143,7 @@ pub extern "C" fn nizhalepu_list(log: &[u8], text: &mut [u8]) -> usize
 
 // How long a program takes.
 #[repr(C)]
-#[derive(Drop)]
+#[derive(Clone, Copy)]
 pub struct Duration {
     // the number of the refusal, 0 where the program has a duration
     pub refusal: u8,
@@ -163,7 +165,7 @@ pub extern "C" fn nizhalepu_duration(program: &[u8]) -> Duration
 
 // How a program stopped that was started at a line.
 #[repr(C)]
-#[derive(Drop)]
+#[derive(Clone, Copy)]
 pub struct Explained {
     // the tick from the start, which is tick 0; 0 where it is refused or still runs
     pub tick: u32,

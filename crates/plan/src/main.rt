@@ -1,6 +1,8 @@
 // The program plan of 02, item 10: an inclining plan as text, from the file that its argument names or from standard input; on standard output the
 // stored program that carries it out, or with --check its table. No more of the text is kept than its numbers.
 // What is told is in contracts, by specs/Telling.antt; which bytes were read, and which went out, is in none, since C's have none.
+#![tactic(auto)]
+
 ghost use Rattle.plantext.specs.Reading.{begin};
 ghost use Rattle.plan.specs.Reading.{ReadOn, ReadFrom};
 
@@ -11,7 +13,7 @@ use streams::{Output, arguments};
 mod telling;
 
 // What was read, what is left of the input, and whether to read on.
-#[derive(Drop)]
+#[derive(Clone, Copy)]
 struct Progress {
     input: Input,
     reader: Reader,
@@ -19,7 +21,7 @@ struct Progress {
 }
 
 // What was read, and whether something failed then.
-#[derive(Drop)]
+#[derive(Clone, Copy)]
 struct Text {
     reader: Reader,
     failed: bool,

@@ -65,7 +65,7 @@ fn put_stretch(
 }
 
 // Of a move: the tick at which its reading begins, and the one at which it is over.
-#[derive(Drop)]
+#[derive(Clone, Copy)]
 struct Moments {
     reading: u64,
     over: u64,

@@ -1,5 +1,7 @@
 // An inclining plan as the program that carries it out: 02, item 10.
 // Definitions: specs/Plan.antt for what the plan asks for, specs/Lines.antt for the program, specs/Planned.antt for the refusals.
+#![tactic(auto)]
+
 ghost use Rattle.std.specs.Prelude.{◌≡◌, true, [], ◌∷◌, ◌+◌, ◌*◌, ◌-◌, ◌≤◌, ◌<◌, length, replicate};
 ghost use Rattle.formats.specs.Checks.{all};
 ghost use Rattle.lines.specs.declared.Line.TheVariants.{State};
@@ -12,7 +14,7 @@ ghost use Rattle.planner.specs.Planned.{is_counted, planned, answer_of, area_of}
 use lines::Line;
 
 // A weight move: the word of the outputs while the ship settles, for how many ticks, the word for the reading, for how many ticks.
-#[derive(Drop)]
+#[derive(Clone, Copy)]
 pub struct Move {
     pub moveword: u32,
     pub settling: u32,
@@ -21,7 +23,7 @@ pub struct Move {
 }
 
 // The program is written, or why not.
-#[derive(Drop)]
+#[derive(Clone, Copy)]
 pub enum Answer {
     Written,
     Refused(u8),

@@ -1,6 +1,8 @@
 // A plan that is read from text, byte by byte: the numbers of its moves, or the line and the fault.
 // Definitions: specs/Text.antt for what the text says, specs/Faults.antt for what is wrong with it, specs/Kept.antt for which numbers are kept,
 // specs/Reading.antt for how the code goes.
+#![tactic(auto)]
+
 ghost use Rattle.std.specs.Prelude.{◌≡◌};
 ghost use Rattle.plantext.specs.Text.{hex_value};
 ghost use Rattle.plantext.specs.Reading.{begin, base, digits_after, value_after, character, wrong, missing, store, field_after, field_end};
@@ -10,7 +12,7 @@ ghost use Rattle.plantext.specs.Reading.{closed, hash, letter, line_after, line_
 pub const ROOM: usize = 68;
 
 // What was read so far.
-#[derive(Drop)]
+#[derive(Clone, Copy)]
 pub struct Reader {
     // the first `stored` of these are the numbers read: of each move its word, settling, word, reading
     pub moves: [u32; ROOM],

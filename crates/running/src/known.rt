@@ -13,7 +13,7 @@ use crate::{How, Ran, Run, loops};
 use lines::Line;
 
 // Of each line its counter, 0 where it names none, and of a For the line of its Next, 200 where it has none, and its count.
-#[derive(Drop)]
+#[derive(Clone, Copy)]
 pub struct Table {
     pub counters: [u8; 200],
     pub nexts: [u8; 200],

@@ -1,5 +1,7 @@
 // The part of the box that a running program moves, and what a start and a tick do to it.
 // A run is passed by value, some times in a call and never for a For or a Next. A call that runs no line reads nothing of the program.
+#![tactic(auto)]
+
 ghost use Rattle.std.specs.Prelude.{◌≡◌, true, [], ◌<◌};
 ghost use Rattle.lines.specs.Program.{IsProgram};
 ghost use Rattle.lines.specs.declared.Line.TheVariants.{State};
@@ -14,14 +16,14 @@ mod loops;
 
 // A loop counter: 0 when free, and the line of the For that holds it.
 #[repr(C)]
-#[derive(Drop)]
+#[derive(Clone, Copy)]
 pub struct Counter {
     pub count: u16,
     pub line: u8,
 }
 
 #[repr(C)]
-#[derive(Drop)]
+#[derive(Clone, Copy)]
 pub struct Run {
     // a program runs (also when it is paused)
     pub on: bool,
@@ -35,7 +37,7 @@ pub struct Run {
 }
 
 // What one line led to.
-#[derive(Drop)]
+#[derive(Clone, Copy)]
 pub enum How {
     // a State line is held
     Holds,
@@ -45,7 +47,7 @@ pub enum How {
     GoesOn,
 }
 
-#[derive(Drop)]
+#[derive(Clone, Copy)]
 pub struct Step {
     pub run: Run,
     pub how: How,
@@ -53,7 +55,7 @@ pub struct Step {
 
 // What a For or a Next led to: its counter after it, the line then due or stopped on, and how. It is all that such a line changes of a
 // run, so the loop of a call passes on no whole run, which would be copied on the stack at each line.
-#[derive(Drop)]
+#[derive(Clone, Copy)]
 pub struct Turn {
     pub held: Counter,
     pub line: u8,
@@ -61,7 +63,7 @@ pub struct Turn {
 }
 
 // What a start or a tick did: the run after it, the event raised (0 for none), the number of For and Next lines run.
-#[derive(Drop)]
+#[derive(Clone, Copy)]
 pub struct Ran {
     pub run: Run,
     pub event: u8,

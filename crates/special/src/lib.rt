@@ -1,11 +1,13 @@
 // The special commands: their codes, when each is allowed, and how far its parameter reaches.
 // The types, the table of when each is allowed, and a function for each rule.
+#![tactic(auto)]
+
 ghost use Rattle.std.specs.Prelude.{◌≡◌};
 ghost use Rattle.special.specs.Special.{mode_of, forbidden, code_of, special_of, in_reach};
 ghost use Rattle.special.specs.Named.{named_of};
 
 // The three states of the table of special commands.
-#[derive(Drop)]
+#[derive(Clone, Copy)]
 pub enum Mode {
     Stop,
     Pause,
@@ -13,7 +15,7 @@ pub enum Mode {
 }
 
 // The eight special commands, 001 to 008.
-#[derive(Drop)]
+#[derive(Clone, Copy)]
 pub enum Special {
     Stop,
     Pause,
@@ -26,7 +28,7 @@ pub enum Special {
 }
 
 // The special command of a code, or the error.
-#[derive(Drop)]
+#[derive(Clone, Copy)]
 pub enum Named {
     Is(Special),
     Error(u8),

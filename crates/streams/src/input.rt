@@ -6,7 +6,7 @@ use crate::{Output, arguments, say};
 use libc::STDIN_FILENO;
 
 // What is read now.
-#[derive(Drop)]
+#[derive(Clone, Copy)]
 pub struct Input {
     fd: i32,
     // the argument that names it; 0 for standard input
@@ -22,14 +22,14 @@ pub struct Input {
 }
 
 // What came: so many bytes, at the start of the buffer, and whether a read failed then.
-#[derive(Drop)]
+#[derive(Clone, Copy)]
 struct Got {
     count: usize,
     failed: bool,
 }
 
 // The next bytes, at the start of the buffer, and what they leave. None are the end of the last file, or something failed: the input or the output.
-#[derive(Drop)]
+#[derive(Clone, Copy)]
 pub struct Piece {
     pub input: Input,
     pub output: Output,

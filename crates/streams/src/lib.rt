@@ -2,6 +2,8 @@
 // Output is gathered in a block that the program lends. It goes out where the next bytes do not fit behind it, and where the program asks, as
 // before it waits for input.
 // Definitions: specs/Gathering.antt. Which bytes a read or a write moves, or an argument has, is in no contract, since C's have none.
+#![tactic(auto)]
+
 ghost use Rattle.std.specs.Prelude.{true, [], ◌∷◌, ◌++◌, ◌≡◌, take};
 ghost use Rattle.formats.specs.Digits.{shown, decimal, error_text};
 ghost use Rattle.io.specs.Counts.{IsPrefixLen};
@@ -14,7 +16,7 @@ pub mod gather;
 pub mod input;
 
 // The state of standard output. The block that goes with it is lent to each call.
-#[derive(Drop)]
+#[derive(Clone, Copy)]
 pub struct Output {
     // how many bytes at the start of the block are gathered
     pub used: usize,

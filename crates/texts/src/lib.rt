@@ -1,5 +1,7 @@
 // A line on the wire: how it is shown, and how it is read, with the error where it is not one.
 // 01, 'Variables': "Wire forms: `S 00 X4 X3 X2 X1 TTTT`, `F C XXXX`, `N C`." Definitions: specs/Text.antt.
+#![tactic(auto)]
+
 ghost use Rattle.std.specs.Prelude.{◌≡◌, ◌+◌, ◌≤◌, length};
 ghost use Rattle.formats.specs.Numbers.{number_or};
 ghost use Rattle.formats.specs.Writing.{Wrote};
@@ -10,7 +12,7 @@ use formats::Number;
 use lines::Line;
 
 // What characters say: a line, or the number of the error.
-#[derive(Drop)]
+#[derive(Clone, Copy)]
 pub enum Parsed {
     Is(Line),
     Error(u8),

@@ -1,6 +1,8 @@
 // The program totals of 02, item 11: emptied logs, each in a file that an argument names, in the order of their emptying; on standard output for each
 // channel how often it closed and opened and for how many ticks it was closed, and then how many changes the logs lost. No more than one log is kept.
 // What is told is in contracts, by specs/Telling.antt; which bytes were read, and which went out, is in none, since C's have none.
+#![tactic(auto)]
+
 ghost use Rattle.std.specs.Prelude.{ℕ, ◌≡◌, length};
 ghost use Rattle.totals.specs.Telling.{Turns, Begun, Ends, Tells};
 
@@ -14,7 +16,7 @@ mod telling;
 const MORE_THAN_MOST: usize = reader::MOST_BYTES + 1;
 
 // The totals after a log.
-#[derive(Drop)]
+#[derive(Clone, Copy)]
 struct Progress {
     channels: [Channel; 32],
     beside: Beside,

@@ -1,6 +1,8 @@
 // Trials of the five calls with areas of any length, driven by records of four bytes, on standard input or in a file that an argument names: what to
 // do, a byte x, and two bytes more; the last three are also one number, of a button or of a length. After each call a line tells the refusal, the
 // lines run, the bytes written, a sum of each whole buffer, and the bytes written. model/trials.py writes the input and the expected output.
+#![tactic(auto)]
+
 ghost use Rattle.std.specs.Prelude.{◌<◌};
 ghost use Rattle.controller.specs.Invariant.{Invariant};
 ghost use Rattle.trials.specs.Fits.{Fits, Buffers};
@@ -10,7 +12,7 @@ use streams::input::Input;
 use streams::{Output, arguments};
 
 // How many bytes of each buffer are lent.
-#[derive(Drop)]
+#[derive(Clone, Copy)]
 struct Sizes {
     program: usize,
     saved: usize,
@@ -19,14 +21,14 @@ struct Sizes {
 }
 
 // The box and the output after a record.
-#[derive(Drop)]
+#[derive(Clone, Copy)]
 struct After {
     held: SwitchBox,
     output: Output,
 }
 
 // The box, the output and the sizes after a record, and whether there may be more.
-#[derive(Drop)]
+#[derive(Clone, Copy)]
 struct Next {
     held: SwitchBox,
     output: Output,
@@ -35,7 +37,7 @@ struct Next {
 }
 
 // A record of the input: `at` is the number in its last two bytes, `number` that in its last three, of which x is the highest.
-#[derive(Drop)]
+#[derive(Clone, Copy)]
 struct Record {
     op: u8,
     x: u8,

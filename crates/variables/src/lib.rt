@@ -1,5 +1,7 @@
 // The 217 variables: those that stand for themselves, what a read of an address answers, and the output word with one of its bytes
 // written. 01, 'Variables', its table. Definitions: specs/Panel.antt, specs/Variables.antt.
+#![tactic(auto)]
+
 ghost use Rattle.std.specs.Prelude.{◌≡◌, ◌+◌, ◌-◌, ◌*◌, ◌≤◌, length};
 ghost use Rattle.lines.specs.Program.{IsProgram};
 ghost use Rattle.formats.specs.Digits.{h, d, 2d};
@@ -14,7 +16,7 @@ use running::Run;
 
 // The variables that stand beside the program, the run and the wire.
 #[repr(C)]
-#[derive(Drop)]
+#[derive(Clone, Copy)]
 pub struct Panel {
     // 200, the single command, in the eight bytes of a line
     pub single: [u8; 8],

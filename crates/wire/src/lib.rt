@@ -1,5 +1,7 @@
 // The wire: characters are collected, byte 13 ends a command, and the checks decide what it asks for.
 // Definitions: specs/Collecting.antt, specs/Command.antt; specs/HeardCommand.antt for what the types of the answers stand for.
+#![tactic(auto)]
+
 ghost use Rattle.std.specs.Prelude.{◌≡◌, true, ◌≤◌, length};
 ghost use Rattle.wire.specs.Collecting.{fresh_wire, read_to, wrote_to, collect, cleared, capital};
 ghost use Rattle.wire.specs.Command.{has_address, in_format};
@@ -16,7 +18,7 @@ mod address;
 
 // What is collected, and where each direction stands.
 #[repr(C)]
-#[derive(Drop)]
+#[derive(Clone, Copy)]
 pub struct Wire {
     // the first `len` of these are the characters kept, in capitals
     pub chars: [u8; 32],
@@ -30,7 +32,7 @@ pub struct Wire {
 }
 
 // The data of a write that passes all checks.
-#[derive(Drop)]
+#[derive(Clone, Copy)]
 pub enum Data {
     WriteLine(Line),
     WriteOutputs(u8),
@@ -39,21 +41,21 @@ pub enum Data {
 }
 
 // What a command that passes all checks asks for: an address to read, or one to write and its data.
-#[derive(Drop)]
+#[derive(Clone, Copy)]
 pub enum Asked {
     Read(u8),
     Write(u8, Data),
 }
 
 // What the data of a write are heard as: the data, or the number of the error.
-#[derive(Drop)]
+#[derive(Clone, Copy)]
 pub enum Given {
     Is(Data),
     Error(u8),
 }
 
 // What a finished command is heard as.
-#[derive(Drop)]
+#[derive(Clone, Copy)]
 pub enum Heard {
     Is(Asked),
     Error(u8),
