@@ -1,0 +1,14 @@
+-- `running::Run::onward` meets its contract: by the test of the line.
+-- Assumes nothing.
+use borrow.Author.Tests.{lt-ltb, le-ltb}
+use borrow.Author.Rules.{rules}
+use Rattle.running.specs.Running.{onward}
+use Rattle.running.proofs.Run.onward.Goals as goal
+
+pub returns-then-line-lt199 : goal.returns-then-line-lt199
+unfolding onward
+returns-then-line-lt199 c = record { step = simp (lt-ltb _ _ c.if-line-lt199.true) }
+
+pub returns : goal.returns
+unfolding onward
+returns c = record { step = simp (le-ltb _ _ c.if-line-lt199.false) }

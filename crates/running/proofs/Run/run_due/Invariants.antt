@@ -1,0 +1,19 @@
+-- `running::Run::run_due` meets its contract: the loop keeps what is left to run equal to what was to run; each turn counts one line, and
+-- by both ways out what is left is what the last line leads to.
+-- Assumes nothing.
+use Prim.Native.Nat.{◌-◌, ◌≤◌}
+use mathlib.Core.Path.{◌≡◌, refl, sym, ◌∙◌}
+use mathlib.Core.Logic.{⊎_elim}
+use native.Mathlib.Omega.{arith}
+use borrow.Author.Rules.{rules}
+use Rattle.running.proofs.Turns.{line_named, due_ends, due_goes_on, due_going, all_counted, none_left}
+use Rattle.running.proofs.Invariant.{Going, goes_on, still}
+use Rattle.running.specs.Running.{run_due}
+use borrow.Enum.Refused.{opened}
+use Rattle.running.proofs.Run.run_due.Given as goal
+
+abbrev pub invariant-loop-n : goal.invariant-loop-n
+invariant-loop-n l = (l.n ≤ 400) × Going l.run × (run_due l.p 400 0 l.initial.run ≡ run_due l.p (400 - l.n) l.n l.run)
+
+abbrev pub decreases-loop-n : goal.decreases-loop-n
+decreases-loop-n l = 400 - l.n
