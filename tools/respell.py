@@ -130,6 +130,9 @@ def turned_comment(text, to):
 
 def turned(path, text, to):
     stay = brought(code_of(path, text))
+    if path.endswith(".rt"):
+        # names of src/ stay: only a name that Rust cannot have is turned there
+        to = {k: v for k, v in to.items() if re.search("[a-z0-9][A-Z]|-", k)}
     mark = "--" if path.endswith(".antt") else "//"
     out, at = [], 0
     for m in re.finditer(rf'"(?:[^"\\\n]|\\.)*"|{mark}[^\n]*', text):
