@@ -9,6 +9,10 @@ use borrow.Author.Rules.{rules}
 use native.Mathlib.Omega.{arith}
 use Rattle.explanation.proofs.followed.Goals as goal
 
+pub due-ran-requires : goal.due-ran-requires
+due-ran-requires c =
+    rw c.begun-held.ensures.run (c.requires.0, refl, still (begun_going _ 0 c.requires.1), c.known_of-table.ensures.known)
+
 pub loop-ran-init : goal.loop-ran-init
 loop-ran-init c = at_start _ _ _ c.begun-held.ensures.run c.due-ran.ensures.due
 
@@ -39,6 +43,15 @@ slice_bounds-next_due-end-in-loop-ran c =
 pub slice_bounds-next_due-end-in-loop-ran-2 : goal.slice_bounds-next_due-end-in-loop-ran-2
 slice_bounds-next_due-end-in-loop-ran-2 c =
     search rules
+
+pub next_due-ran-requires : goal.next_due-ran-requires
+next_due-ran-requires c = (
+  c.requires.0,
+  runs _ _ _ c.loop-ran.invariant c.if-ran-ne0.false,
+  search rules,
+  one_good _ _ _ c.loop-ran.invariant c.if-ran-ne0.false c.requires.1,
+  c.known_of-table.ensures.known,
+)
 
 pub loop-ran-smaller : goal.loop-ran-smaller
 loop-ran-smaller c =

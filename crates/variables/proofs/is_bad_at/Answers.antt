@@ -8,3 +8,7 @@ use Rattle.variables.proofs.is_bad_at.Goals as goal
 pub returns-then-k-gt200 : goal.returns-then-k-gt200
 unfolding is_bad_at
 returns-then-k-gt200 c = record { test = simp (lt-leb _ _ c.if-k-gt200.true) }
+
+pub returns : goal.returns
+unfolding is_bad_at
+returns c = record { test = simp (c.is_bad.ensures.test, c.line_of.ensures.line, le-leb _ _ c.if-k-gt200.false) }

@@ -70,3 +70,11 @@ returns-in-212 c =
       wrote = wrote_as c.put_decimal-in-212.ensures.wrote (simp c.in-212.is);
       near = search rules;
     }
+
+pub returns-in-0-to-200 : goal.returns-in-0-to-200
+unfolding value
+returns-in-0-to-200 c =
+    record {
+      wrote = wrote_as c.put_line_text.ensures.wrote (simp (le-leb c.args.k 200 (search rules), c.line_of.ensures.line));
+      near = search rules;
+    }
