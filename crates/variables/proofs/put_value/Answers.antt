@@ -78,3 +78,40 @@ returns-in-0-to-200 c =
       wrote = wrote_as c.put_line_text.ensures.wrote (simp (le-leb c.args.k 200 (search rules), c.line_of.ensures.line));
       near = search rules;
     }
+
+pub returns-in-203-to-206 : goal.returns-in-203-to-206
+unfolding value
+returns-in-203-to-206 c =
+    let own = c.in-203-to-206.in_default-own in
+    record {
+      wrote =
+          wrote_as c.put_hex-in-203-to-206.ensures.wrote (simp (
+            lt-leb _ 200 c.in-203-to-206.if-k-lt201-own.false,
+            ne_eqb _ _ own.rest.0.0.0.0.0.0.0.1,
+            ne_eqb _ _ own.rest.0.0.0.0.0.0.1,
+            le-leb c.args.k 206 (search rules),
+            c.output_byte.ensures.byte,
+          ));
+      near = search rules;
+    }
+
+pub returns-in_default : goal.returns-in_default
+unfolding value
+returns-in_default c =
+    let own = c.in_default.in_default-own in
+    record {
+      wrote =
+          wrote_as c.put_count.ensures.wrote (simp (
+            lt-leb _ 200 c.in_default.if-k-lt201-own.false,
+            ne_eqb _ _ own.rest.0.0.0.0.0.0.0.1,
+            ne_eqb _ _ own.rest.0.0.0.0.0.0.1,
+            lt-leb _ 206 c.in_default.if-k-lt207-own.false,
+            ne_eqb _ _ own.rest.0.0.0.0.0.1,
+            ne_eqb _ _ own.rest.0.0.0.0.1,
+            ne_eqb _ _ own.rest.0.0.0.1,
+            ne_eqb _ _ own.rest.0.0.1,
+            ne_eqb _ _ own.rest.0.1,
+            ne_eqb _ _ own.rest.1,
+          ));
+      near = search rules;
+    }
