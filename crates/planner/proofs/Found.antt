@@ -44,6 +44,7 @@ behind l ls n = ap (λ m. drop (m + n) (bytes_of l ++ laid ls)) (sym (length_byt
 -- what is laid is found
 found : (ls : List Line) → AllFit ls → (k : ℕ) → k < length ls → line_at (laid ls) k ≡ get_or ls k Bad
 unfolding line_at laid
+found [] _ k lt = elim lt [ ]
 found (l ∷ ls) (more _ f a) zero lt = bytes_back l (laid ls) f
 found (l ∷ ls) (more _ f a) (suc k) lt =
     let next : 8 * suc k ≡ 8 + 8 * k = omega arith in

@@ -9,7 +9,7 @@ use lib.ListN.{length, replicate}
 use lib.Dec.{ltb, eqb}
 use borrow.Author.Tests.{ltb-true, ltb-false, eqb-true, eqb-false}
 use Rattle.lines.specs.declared.Line.{Line}
-use Rattle.lines.specs.declared.Line.TheVariants.{State, For, Next}
+use Rattle.lines.specs.declared.Line.TheVariants.{State, For, Next, Bad}
 use Rattle.lines.specs.Line.{end_mark, is_next}
 use Rattle.lines.specs.Program.{line_at}
 use Rattle.planner.specs.declared.Move.{Move}
@@ -128,6 +128,16 @@ module _ (p : List ℕ) where
           let down = ltb-false i k h in
           let at : i ≡ k = omega arith in
           a_for c x (subst (λ j. LoopAt p last j c x) at at_loop)
+  around (For c x ∷ []) i last wrong s is k le lt = elim wrong [ ]
+  around (For c x ∷ (State o t ∷ [])) i last wrong s is k le lt = elim wrong [ ]
+  around (For c x ∷ (State o t ∷ (State _ _ ∷ ls))) i last wrong s is k le lt = elim wrong [ ]
+  around (For c x ∷ (State o t ∷ (For _ _ ∷ ls))) i last wrong s is k le lt = elim wrong [ ]
+  around (For c x ∷ (State o t ∷ (Bad ∷ ls))) i last wrong s is k le lt = elim wrong [ ]
+  around (For c x ∷ (For _ _ ∷ _)) i last wrong s is k le lt = elim wrong [ ]
+  around (For c x ∷ (Next _ ∷ _)) i last wrong s is k le lt = elim wrong [ ]
+  around (For c x ∷ (Bad ∷ _)) i last wrong s is k le lt = elim wrong [ ]
+  around (Next _ ∷ ls) i last wrong s is k le lt = elim wrong [ ]
+  around (Bad ∷ ls) i last wrong s is k le lt = elim wrong [ ]
 
 -- every line of a plan's program
 pub program_around : (ms : List Move) → length ms ≤ 16 → AllProper ms → (k : ℕ) → k < 200 → Around (program_of ms) 200 k

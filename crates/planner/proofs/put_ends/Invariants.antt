@@ -1,0 +1,17 @@
+-- `planner::put_ends` meets its contract: the end marks up to line i are laid.
+-- Assumes nothing.
+use Prim.Native.Nat.{◌-◌, ◌≤◌}
+use native.Mathlib.Omega.{arith}
+use mathlib.Core.Path.{◌≡◌, refl, ◌∙◌}
+use lib.ListN.{length, replicate}
+use borrow.Author.Rules.{rules}
+use Rattle.lines.specs.Line.{end_mark}
+use Rattle.planner.specs.Lines.{Lays}
+use Rattle.planner.proofs.Laying.{ends_begin, ends_more}
+use Rattle.planner.proofs.put_ends.Given as goal
+
+abbrev pub invariant-loop-i : goal.invariant-loop-i
+invariant-loop-i l = (Lays l.at (replicate (l.i - l.at) end_mark) l.initial.program l.i l.program) × (l.at ≤ l.i) × (l.i ≤ 200) × (length l.program ≡ length l.initial.program)
+
+abbrev pub decreases-loop-i : goal.decreases-loop-i
+decreases-loop-i l = 200 - l.i

@@ -1,0 +1,16 @@
+-- `planner::put_moves` meets its contract: the lines of the moves before number k are laid.
+-- Assumes nothing.
+use Prim.Native.Nat.{◌*◌, ◌-◌, ◌≤◌}
+use native.Mathlib.Omega.{arith}
+use mathlib.Core.Path.{◌≡◌, refl, sym, subst, ◌∙◌}
+use lib.ListN.{length}
+use borrow.Author.Rules.{rules}
+use Rattle.planner.specs.Plan.{Timed}
+use Rattle.planner.proofs.Moves.{counted_is, Planned, plan_begins, move_timed, plan_on, plan_over}
+use Rattle.planner.proofs.put_moves.Given as goal
+
+abbrev pub invariant-loop-k : goal.invariant-loop-k
+invariant-loop-k l = (Planned l.plan l.k l.initial.program l.at l.program) × (l.k ≤ l.moves) × (l.at ≤ 8 * l.k) × (length l.program ≡ length l.initial.program)
+
+abbrev pub decreases-loop-k : goal.decreases-loop-k
+decreases-loop-k l = l.moves - l.k
