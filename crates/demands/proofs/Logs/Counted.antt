@@ -240,7 +240,7 @@ counts_all ds t h [] g i e = record {
 counts_all ds t h (m ∷ ms) g i e =
     let calm = both_true (not (begins (note h m))) (none_begins (notes (next h m) ms)) e in
     counts_more ds t h m (notes (next h m) ms) g i (not-true (begins (note h m)) calm.0)
-    (counts_all _ (tell t (note h m)) (next h m) ms (agrees_next t h m i g) (next_invariant h m i) calm.1)
+    (counts_all (since_call ds t (note h m) m.call) (tell t (note h m)) (next h m) ms (agrees_next t h m i g) (next_invariant h m i) calm.1)
 
 -- ---- with a gap
 

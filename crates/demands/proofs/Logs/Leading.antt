@@ -226,7 +226,7 @@ grown_all from cs t h (m ∷ ms) g i b f l e =
     let one = grown_one from cs t h g i f l m.call m.areas two.0 quiet in
     let le = later t h m g two.0 f (neither (is_power_on m.call) _ quiet).0 in
     let u = tell t (note h m) in
-    let rest = grown_all from _ u (next h m) ms (agrees_next t h m i g) (next_invariant h m i) two.1 (range_next t h m g two.0 f)
+    let rest = grown_all from (since_call cs t (note h m) m.call) u (next h m) ms (agrees_next t h m i g) (next_invariant h m i) two.1 (range_next t h m g two.0 f)
     one.reached calm.1 in
     record {
       more = one.more ++ rest.more;
@@ -262,7 +262,7 @@ unfolding since notes note tell_all
 reached_after cs t h [] g i b f l = (l, f)
 reached_after cs t h (m ∷ ms) g i b f l =
     let two = both_true (are_of_bytes m.areas) (lend_bytes ms) b in
-    reached_after _ (tell t (note h m)) (next h m) ms (agrees_next t h m i g) (next_invariant h m i) two.1 (range_next t h m g two.0 f)
+    reached_after (since_call cs t (note h m) m.call) (tell t (note h m)) (next h m) ms (agrees_next t h m i g) (next_invariant h m i) two.1 (range_next t h m g two.0 f)
     (reached_next cs t h m.call m.areas g i two.0 f l)
 
 -- The changes lead to what the history says, after any calls whose lent areas hold bytes.

@@ -128,7 +128,7 @@ counted_after : (cs : List Change) (t : Told) (h : Held) (ms : List Made) → Ag
 unfolding since after notes note
 counted_after cs t h [] g i n = n
 counted_after cs t h (m ∷ ms) g i n =
-    counted_after _ (tell t (note h m)) (next h m) ms (agrees_next t h m i g) (next_invariant h m i) (counted_next cs t h m.call m.areas g i n)
+    counted_after (since_call cs t (note h m) m.call) (tell t (note h m)) (next h m) ms (agrees_next t h m i g) (next_invariant h m i) (counted_next cs t h m.call m.areas g i n)
 
 counted_always : (ms : List Made) → Counted (changes ms) (after unpowered ms).state
 unfolding changes fresh emptied

@@ -106,7 +106,7 @@ tells_after : (cs : List Change) (t : Told) (h : Held) (ms : List Made) → Agre
 unfolding since after notes note
 tells_after cs t h [] g i hands tl = tl
 tells_after cs t h (m ∷ ms) g i hands tl =
-    tells_after _ (tell t (note h m)) (next h m) ms (agrees_next t h m i g) (next_invariant h m i) hands.1
+    tells_after (since_call cs t (note h m) m.call) (tell t (note h m)) (next h m) ms (agrees_next t h m i g) (next_invariant h m i) hands.1
     (tells_next cs t h m.call m.areas g i hands.0 tl)
 
 -- what an accepted emptying leaves in its destination, and the count that it returns

@@ -225,7 +225,7 @@ makes_all n {h} p [] r e cs = record { calls = []; held = h; leads = subst (λ d
 makes_all n {h} p (c ∷ ds) r e cs =
     let x = next_says p c ds e in
     let one = makes_one n p c r x.fitting x.after cs in
-    let rest = makes_all n c ds one.ready x.more (cs ++ (c ∷ [])) in
+    let rest = makes_all n {h = one.held} c ds one.ready x.more (cs ++ (c ∷ [])) in
     reaches_then one
     (subst (λ es. Reaches n (cs ++ (c ∷ [])) one.held es (last_of c ds).word (last_of c ds).tick) (append_assoc cs (c ∷ []) ds) rest)
 
