@@ -1,6 +1,5 @@
 -- Output that is gathered in a block before it goes out.
-use Rattle.std.specs.Prelude.{true, List, [], ◌++◌, ◌≡◌, ◌⊎◌, ℕ, ◌+◌, ◌≤◌, leb, length, take}
-use Rattle.formats.specs.Checks.{if◌then◌else◌}
+use Rattle.std.specs.Prelude.{true, List, [], ◌++◌, ◌≡◌, ◌⊎◌, ℕ, ◌+◌, ◌≤◌, leb, length, take, if◌then◌else◌}
 use Rattle.streams.specs.declared.Output.{Output}
 
 -- the bytes that wait in the block

@@ -1,7 +1,7 @@
 // What programs share: their arguments, the files that these name or standard input, and standard output.
 // Output is gathered in a block that the program lends. It goes out where the next bytes do not fit behind it, and where the program asks, as
 // before it waits for input.
-// Definitions: specs/Gathering.antt. Which bytes a read or a write moves, or an argument has, is in no contract, since C's have none.
+// Definitions: specs/Gathering.antt. Which bytes a read or a write moves, or an argument has, is in no contract, since the library's have none.
 #![tactic(auto)]
 
 ghost use Rattle.std.specs.Prelude.{true, [], ◌∷◌, ◌++◌, ◌≡◌, take};
@@ -9,7 +9,7 @@ ghost use Rattle.formats.specs.Digits.{shown, decimal, error_text};
 ghost use Rattle.io.specs.Counts.{IsPrefixLen};
 ghost use Rattle.streams.specs.Gathering.{gathered, Puts, Passes};
 
-use libc::{STDERR_FILENO, STDOUT_FILENO};
+use std::io::{Error, Write};
 
 pub mod arguments;
 pub mod gather;
@@ -18,6 +18,8 @@ pub mod input;
 // The state of standard output. The block that goes with it is lent to each call.
 #[derive(Clone, Copy)]
 pub struct Output {
+    // what it writes by: the handle of `main`, which takes no bytes
+    rt: HostRuntime,
     // how many bytes at the start of the block are gathered
     pub used: usize,
     // no write has failed; once one has, nothing more is written
@@ -27,28 +29,31 @@ pub struct Output {
 // ---- output
 
 // Bytes are written, all of them. A write that failed is told on standard error.
-fn write_whole(bytes: &[u8]) -> bool {
-    if io::write_all(STDOUT_FILENO, bytes) {
-        return true;
+fn write_whole(rt: &HostRuntime, bytes: &[u8]) -> bool {
+    match rt.write_all(bytes) {
+        Ok(()) => true,
+        Err(error) => {
+            fail(rt, b"cannot write standard output", error);
+            false
+        }
     }
-    os::fail(b"cannot write standard output");
-    false
 }
 
 // The first n bytes are written, all where there are fewer.
-pub fn write_first(bytes: &[u8], n: usize) -> bool {
+pub fn write_first(rt: &HostRuntime, bytes: &[u8], n: usize) -> bool {
     if n <= bytes.len() {
-        return write_whole(&bytes[..n]);
+        return write_whole(rt, &bytes[..n]);
     }
-    write_whole(bytes)
+    write_whole(rt, bytes)
 }
 
 impl Output {
     // Nothing is gathered.
-    pub fn new() -> Output
+    pub fn new(rt: &HostRuntime) -> Output
         ensures empty { (result.used ≡ 0) × (result.open ≡ true) }
     {
         Output {
+            rt: *rt,
             used: 0,
             open: true,
         }
@@ -69,11 +74,13 @@ impl Output {
     fn sent(self, bytes: &[u8]) -> Output
         ensures empty { (result.used ≡ 0) × (result.open ≡ true → self.open ≡ true) }
     {
+        let rt = self.rt;
         if self.open {
-            let open = write_whole(bytes);
-            return Output { used: 0, open };
+            let open = write_whole(&rt, bytes);
+            return Output { rt, used: 0, open };
         }
         Output {
+            rt,
             used: 0,
             open: false,
         }
@@ -90,7 +97,7 @@ impl Output {
     // What is gathered goes to standard error: it is a message.
     pub fn said(self, block: &[u8]) {
         let n = self.held(block);
-        say(&block[..n]);
+        say(&self.rt, &block[..n]);
     }
 
     // The same, where somebody may wait for it.
@@ -115,6 +122,7 @@ impl Output {
         if n <= block.len() - at {
             formats::copy(bytes, &mut block[at..], n);
             return Output {
+                rt: self.rt,
                 used: at + n,
                 open: self.open,
             };
@@ -123,6 +131,7 @@ impl Output {
         if n <= block.len() {
             formats::copy(bytes, block, n);
             return Output {
+                rt: out.rt,
                 used: n,
                 open: out.open,
             };
@@ -174,6 +183,41 @@ impl Output {
 // ---- messages
 
 // Bytes go to standard error. Where it takes none, nobody can be told.
-pub fn say(bytes: &[u8]) {
-    io::write_all(STDERR_FILENO, bytes);
+pub fn say(rt: &HostRuntime, bytes: &[u8]) {
+    let _ = Print::write_all(&rt.stderr(), bytes);
+}
+
+// A line goes to standard error: what failed, and the reason that the system gave.
+fn fail(rt: &HostRuntime, what: &[u8], error: Error) {
+    let mut text = [0u8; 256];
+    let n = shown_error(error, &mut text);
+    say(rt, what);
+    say(rt, b": ");
+    say(rt, reason(&text[..n]));
+    say(rt, b"\n");
+}
+
+// An error as the library shows it, at the start of the area, as far as there is room.
+fn shown_error(error: Error, area: &mut [u8]) -> usize
+    ensures counts { IsPrefixLen result area.new }
+{
+    let size = area.len();
+    let mut rest = &mut area[..];
+    let _ = write!(rest, "{error}");
+    let left = rest.len();
+    if left <= size {
+        return size - left;
+    }
+    0
+}
+
+// The reason alone: behind it the library shows the system's number for it, in parentheses.
+fn reason(shown: &[u8]) -> &[u8] {
+    let Ok(text) = str::from_utf8(shown) else {
+        return shown;
+    };
+    match text.split_once(" (os error ") {
+        Some((words, _)) => words.as_bytes(),
+        None => shown,
+    }
 }
