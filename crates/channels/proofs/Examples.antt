@@ -5,7 +5,8 @@ use Prim.Native.Nat.{ℕ, suc}
 use mathlib.Core.Bool.{Bool, true, false}
 use mathlib.Core.List.{List, [], ◌∷◌, ◌++◌}
 use lib.ListN.{get_or, set, replicate}
-use Rattle.formats.specs.Checks.{if◌then◌else◌, Res, refused, passed, ◌>>=◌, ◌>>◌, ◌or_else◌, same}
+use Rattle.std.specs.Prelude.{if◌then◌else◌}
+use Rattle.formats.specs.Checks.{Res, refused, passed, ◌>>=◌, ◌>>◌, ◌or_else◌, same}
 use Rattle.formats.specs.Digits.{digits, number_after}
 use Rattle.boxlog.specs.Record.{record_of}
 use Rattle.reader.specs.Possible.{in_one_byte, leads_to}

@@ -11,7 +11,8 @@ use mathlib.Core.List.{List, [], ◌∷◌}
 use lib.ListN.{length, drop}
 use lib.Dec.{eqb, leb, ltb}
 use borrow.Author.Tests.{eqb-true, eq-eqb, leb-true}
-use Rattle.formats.specs.Checks.{if◌then◌else◌, refusal_of, ◌>>◌, ◌or_else◌}
+use Rattle.std.specs.Prelude.{if◌then◌else◌}
+use Rattle.formats.specs.Checks.{refusal_of, ◌>>◌, ◌or_else◌}
 use Rattle.formats.proofs.Checks.{both_true, either_true, or_false}
 use Rattle.boxlog.specs.Record.{is_cause, is_kind_and_cause}
 use Rattle.reader.specs.declared.Record.{Record}

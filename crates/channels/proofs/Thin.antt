@@ -8,7 +8,8 @@ use native.Mathlib.Nat.{zero-add}
 use mathlib.Core.Bool.{Bool, true, false, ◌&&◌}
 use mathlib.Core.List.{List, [], ◌∷◌}
 use lib.ListN.{length}
-use Rattle.formats.specs.Checks.{if◌then◌else◌, Res, refused, passed, refusal_of, ◌>>=◌, ◌>>◌, ◌or_else◌}
+use Rattle.std.specs.Prelude.{if◌then◌else◌}
+use Rattle.formats.specs.Checks.{Res, refused, passed, refusal_of, ◌>>=◌, ◌>>◌, ◌or_else◌}
 use Rattle.formats.proofs.Checks.{both_true}
 use Rattle.reader.specs.declared.Record.{Record}
 use Rattle.channels.specs.declared.Channel.{Channel}

@@ -7,7 +7,7 @@ use native.Mathlib.Nat.{suc-add, zero-add}
 use mathlib.Core.Bool.{Bool, true, false}
 use mathlib.Core.List.{List, [], ◌∷◌, ◌++◌}
 use lib.ListN.{length, set, get_or}
-use Rattle.formats.specs.Checks.{if◌then◌else◌}
+use Rattle.std.specs.Prelude.{if◌then◌else◌}
 use Rattle.channels.specs.Totals.{map_from, all_from}
 
 -- ---- the element behind those that were passed

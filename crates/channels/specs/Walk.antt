@@ -1,6 +1,7 @@
 -- How the code goes about it: one walk over the records of a log for all channels, and then each channel's record by itself. Nobody has to believe this.
 use Rattle.std.specs.Prelude.{ℕ, ◌+◌, ◌-◌, ◌%◌, ◌≤◌, ◌<◌, ◌≡◌, ◌≢◌, Bool, true, false, List, length, get_or, eqb}
-use Rattle.formats.specs.Checks.{if◌then◌else◌, refused, passed, refusal_of, ◌>>◌, ◌or_else◌}
+use Rattle.std.specs.Prelude.{if◌then◌else◌}
+use Rattle.formats.specs.Checks.{refused, passed, refusal_of, ◌>>◌, ◌or_else◌}
 use Rattle.reader.specs.declared.Record.{Record}
 use Rattle.reader.specs.declared.Told.{Told}
 use Rattle.reader.specs.declared.Layout.TheVariants.{Sixteen}

@@ -3,7 +3,7 @@
 -- the rest goes to the wire. It prints the replies and nothing else." 02, item 8: "`bench` and the worked points take 32 bytes for 24".
 use Rattle.std.specs.Prelude.{ℕ, ◌+◌, ◌≤◌, ◌<◌, Bool, true, false, ◌≡◌, eqb, length, take, replicate}
 use mathlib.Core.List.{List, [], ◌∷◌, ◌++◌, map, flatten}
-use Rattle.formats.specs.Checks.{if◌then◌else◌}
+use Rattle.std.specs.Prelude.{if◌then◌else◌}
 use Rattle.lines.specs.Program.{program_size}
 use Rattle.controller.specs.declared.Controller.{Controller}
 use Rattle.controller.specs.Controller.{Areas, areas, fresh}

@@ -5,7 +5,8 @@ use Prim.Native.Nat.{ℕ}
 use mathlib.Core.Bool.{Bool, true, false, not, ◌&&◌, ◌||◌}
 use mathlib.Core.List.{List, [], ◌∷◌}
 use lib.Dec.{eqb, ltb}
-use Rattle.formats.specs.Checks.{if◌then◌else◌, Res, refused, passed}
+use Rattle.std.specs.Prelude.{if◌then◌else◌}
+use Rattle.formats.specs.Checks.{Res, refused, passed}
 use Rattle.formats.proofs.Checks.{if_case}
 use Rattle.running.specs.declared.Run.{Run}
 use Rattle.boxlog.specs.declared.Log.{Log}

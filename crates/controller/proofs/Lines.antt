@@ -11,7 +11,8 @@ use lib.ListN.{length, take, drop}
 use lib.Seq.{take-append_seam}
 use lib.Dec.{eqb, leb}
 use borrow.Author.Tests.{eqb-true, eqb-false, eq-eqb, leb-false}
-use Rattle.formats.specs.Checks.{if◌then◌else◌, Res, refused, passed, text, Ok}
+use Rattle.std.specs.Prelude.{if◌then◌else◌}
+use Rattle.formats.specs.Checks.{Res, refused, passed, text, Ok}
 use Rattle.formats.specs.Digits.{error_text}
 use Rattle.formats.proofs.Checks.{if_case}
 use Rattle.lines.specs.declared.Line.{Line}

@@ -1,6 +1,7 @@
 -- The five calls: checked, done, logged, answered.
 use Rattle.std.specs.Prelude.{ℕ, Bool, not, List, eqb}
-use Rattle.formats.specs.Checks.{if◌then◌else◌, Res, refused, passed}
+use Rattle.std.specs.Prelude.{if◌then◌else◌}
+use Rattle.formats.specs.Checks.{Res, refused, passed}
 use Rattle.boxlog.specs.declared.Change.{Change}
 use Rattle.boxlog.specs.declared.Log.{Log}
 use Rattle.boxlog.specs.Log.{Logged, add_change}

@@ -1,6 +1,7 @@
 -- What an accepted call does, before its change is logged.
 use Rattle.std.specs.Prelude.{ℕ, ◌+◌, Bool, true, false, not, List, [], ◌∷◌, ◌++◌, length, drop, eqb}
-use Rattle.formats.specs.Checks.{if◌then◌else◌, Res, refused, passed, ◌>>=◌, ◌>>◌, ◌or_else◌, text}
+use Rattle.std.specs.Prelude.{if◌then◌else◌}
+use Rattle.formats.specs.Checks.{Res, refused, passed, ◌>>=◌, ◌>>◌, ◌or_else◌, text}
 use Rattle.formats.specs.Digits.{error_text}
 use Rattle.lines.specs.declared.Line.{Line}
 use Rattle.lines.specs.Line.{set_by, bytes_of}

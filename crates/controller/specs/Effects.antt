@@ -2,7 +2,8 @@
 -- starts a program, replaces a line.
 use Rattle.std.specs.Prelude.{ℕ, Bool, true, false, not, ◌&&◌, eqb, leb}
 use Rattle.std.proofs.Math.Option.{Option, none, some}
-use Rattle.formats.specs.Checks.{if◌then◌else◌, Res, refused, passed}
+use Rattle.std.specs.Prelude.{if◌then◌else◌}
+use Rattle.formats.specs.Checks.{Res, refused, passed}
 use Rattle.wire.specs.declared.Data.{Data}
 use Rattle.wire.specs.declared.Data.TheVariants.{WriteLine, WriteOutputs, WriteParameter, WriteSpecial}
 use Rattle.wire.specs.declared.Asked.{Asked}

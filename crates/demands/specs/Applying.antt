@@ -2,7 +2,8 @@
 -- `proofs/PutToUse` puts the theorem to use on every script that passes them.
 use Rattle.std.specs.Prelude.{ℕ, ◌+◌, ◌*◌, Bool, true, false, not, ◌&&◌, List, [], ◌∷◌, ◌++◌, length, eqb, leb, ltb}
 use Prim.Native.String.{String}
-use Rattle.formats.specs.Checks.{if◌then◌else◌, Res, refused, passed, text, same, all}
+use Rattle.std.specs.Prelude.{if◌then◌else◌}
+use Rattle.formats.specs.Checks.{Res, refused, passed, text, same, all}
 use Rattle.formats.specs.Digits.{error_text, d}
 use Rattle.lines.specs.Line.{is_bad}
 use Rattle.lines.specs.Program.{line_at}

@@ -1,6 +1,7 @@
 -- 01, 'The wire': "a-z count as A-Z."
 use Rattle.std.specs.Prelude.{ℕ, List, [], ◌∷◌, map, eqb}
-use Rattle.formats.specs.Checks.{if◌then◌else◌, text}
+use Rattle.std.specs.Prelude.{if◌then◌else◌}
+use Rattle.formats.specs.Checks.{text}
 
 -- what stands in the second row under c in the first; c itself, where it does not stand there
 abbrev pub under : List ℕ → List ℕ → ℕ → ℕ

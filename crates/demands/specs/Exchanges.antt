@@ -6,7 +6,8 @@
 use Rattle.std.specs.Prelude.{ℕ, zero, suc, ◌+◌, ◌-◌, Bool, true, ◌&&◌, List, [], ◌∷◌, ◌++◌, map, take, drop, replicate, length, eqb}
 use Prim.Native.Char.{code}
 use Prim.Native.String.{String}
-use Rattle.formats.specs.Checks.{if◌then◌else◌, text, same}
+use Rattle.std.specs.Prelude.{if◌then◌else◌}
+use Rattle.formats.specs.Checks.{text, same}
 use Rattle.controller.specs.declared.Controller.{Controller}
 use Rattle.controller.specs.Controller.{Areas, with_program, with_saved, with_log_area, with_out, with_ticks, with_log, fresh}
 use Rattle.controller.specs.Refusals.{Call, power_on, byte, tick, press, emptying}

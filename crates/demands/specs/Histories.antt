@@ -1,6 +1,6 @@
 -- Calls one after the other, refused ones among them, as the demands speak of them.
 use Rattle.std.specs.Prelude.{ℕ, ◌≡◌, Bool, true, false, ◌&&◌, List, [], ◌∷◌, ◌++◌, eqb}
-use Rattle.formats.specs.Checks.{if◌then◌else◌}
+use Rattle.std.specs.Prelude.{if◌then◌else◌}
 use Rattle.controller.specs.declared.Controller.{Controller}
 use Rattle.controller.specs.Controller.{Areas, fresh}
 use Rattle.controller.specs.Refusals.{Call, power_on, byte, tick, press, emptying}

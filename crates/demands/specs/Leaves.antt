@@ -1,6 +1,6 @@
 -- What a call that is taken leaves of the program area and of the saved copy, by the history, what is lent and the reply.
 use Rattle.std.specs.Prelude.{ℕ, List, eqb}
-use Rattle.formats.specs.Checks.{if◌then◌else◌}
+use Rattle.std.specs.Prelude.{if◌then◌else◌}
 use Rattle.lines.specs.Program.{put_line}
 use Rattle.controller.specs.Controller.{Areas}
 use Rattle.controller.specs.Refusals.{Call}

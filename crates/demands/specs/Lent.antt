@@ -1,7 +1,7 @@
 -- Demand 1: "gets a defined reply or refusal", "The box checks its callers itself": the refusal of every call, by the history and what is lent
 -- alone. 01, 'Calls and what is lent', its table: "Checked in that order, each where the call has that argument."
 use Rattle.std.specs.Prelude.{ℕ, Bool, true, not, ◌&&◌, ◌||◌, List, length, eqb, leb}
-use Rattle.formats.specs.Checks.{if◌then◌else◌}
+use Rattle.std.specs.Prelude.{if◌then◌else◌}
 use Rattle.controller.specs.Controller.{Areas}
 use Rattle.controller.specs.Refusals.{Call, power_on, byte, tick, press, emptying}
 use Rattle.demands.specs.Told.{Told}

@@ -1,7 +1,8 @@
 -- A command that was answered without an error, as one who watches reads it off its characters. The address, the line and the numbers are
 -- read by the definitions of 01's formats; that the checks passed is known from the reply.
 use Rattle.std.specs.Prelude.{ℕ, Bool, true, false, List, eqb, leb}
-use Rattle.formats.specs.Checks.{if◌then◌else◌, Res, refused, passed}
+use Rattle.std.specs.Prelude.{if◌then◌else◌}
+use Rattle.formats.specs.Checks.{Res, refused, passed}
 use Rattle.formats.specs.Digits.{h_in, d_in}
 use Rattle.lines.specs.declared.Line.{Line}
 use Rattle.lines.specs.Line.{end_mark}

@@ -1,7 +1,7 @@
 -- Demand 2, "variables": what a read of each of 000-216 shows, by what the history says and the program lent.
 -- 01, 'Variables', its table, row by row.
 use Rattle.std.specs.Prelude.{ℕ, ◌+◌, ◌/◌, ◌%◌, Bool, not, List, leb, eqb}
-use Rattle.formats.specs.Checks.{if◌then◌else◌}
+use Rattle.std.specs.Prelude.{if◌then◌else◌}
 use Rattle.formats.specs.Digits.{h, d, 2d}
 use Rattle.lines.specs.Program.{line_at}
 use Rattle.texts.specs.Text.{line_text}

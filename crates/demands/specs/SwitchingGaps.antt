@@ -2,7 +2,7 @@
 -- 02, item 11: "From a gap's tick on its stored word counts as the state, no closing or opening is counted for the gap, and a number of changes unknown is
 -- kept beside the totals, added up exactly; 4,294,967,295 makes it "or more"."
 use Rattle.std.specs.Prelude.{ℕ, ◌+◌, ◌-◌, ◌≤◌, ◌<◌, min, ◌≡◌, Bool, false, ◌||◌, List, [], ◌∷◌, ◌++◌, length, get_or, take, drop, leb}
-use Rattle.formats.specs.Checks.{if◌then◌else◌}
+use Rattle.std.specs.Prelude.{if◌then◌else◌}
 use Rattle.boxlog.specs.declared.Change.{Change}
 use Rattle.boxlog.specs.Log.{places}
 use Rattle.channels.specs.declared.Channel.{Channel}

@@ -2,7 +2,8 @@
 -- 02, item 11: "From one log or many in order of emptying, keep for each of the 32 channels a record of closings, openings and ticks spent closed."
 -- The calls are taken from their notes, that is from what is seen of them; no record of a log is read here.
 use Rattle.std.specs.Prelude.{ℕ, zero, suc, ◌+◌, ◌<◌, ◌≡◌, Bool, true, false, not, ◌&&◌, List, [], ◌∷◌, ◌++◌, length, get_or, eqb, ltb}
-use Rattle.formats.specs.Checks.{if◌then◌else◌, passed}
+use Rattle.std.specs.Prelude.{if◌then◌else◌}
+use Rattle.formats.specs.Checks.{passed}
 use Rattle.reader.specs.declared.Record.{Record}
 use Rattle.reader.specs.Reading.{reading}
 use Rattle.channels.specs.declared.Channel.{Channel}

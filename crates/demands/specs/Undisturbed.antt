@@ -1,6 +1,6 @@
 -- Demand 3: what breaks a program off, and which ticks count.
 use Rattle.std.specs.Prelude.{ℕ, ◌+◌, ◌≡◌, ◌⊎◌, Bool, not, ◌&&◌, ◌||◌, List, [], ◌∷◌, eqb, leb}
-use Rattle.formats.specs.Checks.{if◌then◌else◌}
+use Rattle.std.specs.Prelude.{if◌then◌else◌}
 use Rattle.controller.specs.Effects.{is_tick, is_press, is_power_on}
 use Rattle.demands.specs.Seen.{is_taken, Note}
 use Rattle.demands.specs.Said.{given, is_outputs, reads_event}

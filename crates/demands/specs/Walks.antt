@@ -2,7 +2,8 @@
 -- comes of it is noted. A history is gone through once; at each call there stand what the caller holds, what the history says, the call and its note.
 use Rattle.std.specs.Prelude.{ℕ, Bool, ◌&&◌, List, [], ◌∷◌, ◌++◌, map, length, replicate, eqb}
 use Prim.Native.String.{String}
-use Rattle.formats.specs.Checks.{if◌then◌else◌, text, same}
+use Rattle.std.specs.Prelude.{if◌then◌else◌}
+use Rattle.formats.specs.Checks.{text, same}
 use Rattle.controller.specs.Controller.{Areas}
 use Rattle.controller.specs.Refusals.{Call, power_on, emptying}
 use Rattle.controller.specs.Calls.{After}

@@ -4,7 +4,7 @@
 -- Next, or a Next before that line has no For; 041 that line is inside a loop; 044 a loop with count above 0 whose body takes 0 ticks; 014 a
 -- Bad line before it; 043 more than 9,999,999,999 ticks".
 use Rattle.std.specs.Prelude.{ℕ, ◌+◌, ◌≤◌, ◌<◌, ◌≡◌, ◌≢◌, List, length, eqb}
-use Rattle.formats.specs.Checks.{if◌then◌else◌}
+use Rattle.std.specs.Prelude.{if◌then◌else◌}
 use Rattle.lines.specs.declared.Line.TheVariants.{State, For, Next, Bad}
 use Rattle.lines.specs.Program.{line_at, FirstFrom, NoneFrom}
 use Rattle.lines.specs.Loops.{NoEnd, End}

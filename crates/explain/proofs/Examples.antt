@@ -6,7 +6,8 @@ use mathlib.Core.Bool.{false}
 use mathlib.Core.List.{List, [], ◌∷◌, ◌++◌}
 use mathlib.Core.Path.{◌≡◌, refl}
 use lib.ListN.{length, replicate}
-use Rattle.formats.specs.Checks.{if◌then◌else◌, text, same}
+use Rattle.std.specs.Prelude.{if◌then◌else◌}
+use Rattle.formats.specs.Checks.{text, same}
 use Rattle.formats.specs.Digits.{digits, shown, width, number_after, error_text}
 use Rattle.lines.specs.declared.Line.TheVariants.{State, For, Next}
 use Rattle.lines.specs.Line.{read_line, bytes_of}

@@ -2,7 +2,8 @@
 -- 02, item 9: "The deckhand wants the reason and not a number. [...] It answers still running, or the event, its tick from the start, its line and the
 -- cause". Item 1: "a refusal is printed as E and three digits, here and later."
 use Rattle.std.specs.Prelude.{ℕ, ◌/◌, ◌<◌, Bool, true, false, List, [], ◌∷◌, ◌++◌, eqb, ltb}
-use Rattle.formats.specs.Checks.{if◌then◌else◌, text}
+use Rattle.std.specs.Prelude.{if◌then◌else◌}
+use Rattle.formats.specs.Checks.{text}
 use Rattle.formats.specs.Digits.{shown, d, decimal, error_text}
 use Rattle.lines.specs.declared.Line.{Line}
 use Rattle.lines.specs.declared.Line.TheVariants.{State, For, Next, Bad}

@@ -6,7 +6,8 @@ use mathlib.Core.Bool.{Bool, true, false, ◌&&◌}
 use mathlib.Core.List.{List, [], ◌∷◌, ◌++◌}
 use lib.ListN.{length, replicate}
 use lib.Dec.{eqb}
-use Rattle.formats.specs.Checks.{if◌then◌else◌, Res, refused, passed, ◌>>◌, ◌or_else◌}
+use Rattle.std.specs.Prelude.{if◌then◌else◌}
+use Rattle.formats.specs.Checks.{Res, refused, passed, ◌>>◌, ◌or_else◌}
 use Rattle.formats.specs.Digits.{digits, number_after}
 use Rattle.lines.specs.declared.Line.{Line}
 use Rattle.lines.specs.declared.Line.TheVariants.{State, For, Next}

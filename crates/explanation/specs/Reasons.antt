@@ -1,7 +1,7 @@
 -- The reasons of refusals, in the words of the sentence, and their order.
 -- 02, item 9: "Refusals, in order: 030, 060 start line above 199, 061 limit too large."
 use Rattle.std.specs.Prelude.{ℕ, ◌<◌, ◌≡◌, ◌≢◌, List, length, eqb}
-use Rattle.formats.specs.Checks.{if◌then◌else◌}
+use Rattle.std.specs.Prelude.{if◌then◌else◌}
 
 -- What is refused with the number r has its reason.
 pub data Reason (p : List ℕ) (k limit r : ℕ) : Type 0 where

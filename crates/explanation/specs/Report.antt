@@ -2,7 +2,8 @@
 -- 02, item 9: "Add a report that takes a stored program, a start line and a limit of up to 100,000 ticks. It answers still running, or the event, its
 -- tick from the start, its line and the cause".
 use Rattle.std.specs.Prelude.{ℕ, zero, suc, ◌+◌, true, false, not, List, ltb, leb, eqb}
-use Rattle.formats.specs.Checks.{if◌then◌else◌, Res, refused, passed, ◌>>◌, ◌or_else◌}
+use Rattle.std.specs.Prelude.{if◌then◌else◌}
+use Rattle.formats.specs.Checks.{Res, refused, passed, ◌>>◌, ◌or_else◌}
 use Rattle.lines.specs.declared.Line.{Line}
 use Rattle.lines.specs.declared.Line.TheVariants.{State, For, Next, Bad}
 use Rattle.lines.specs.Program.{is_program, line_at}

@@ -11,12 +11,13 @@ use native.Mathlib.Nat.{not-suc-le-zero}
 use lib.ListN.{take, drop, set}
 use lib.Dec.{eqb}
 use borrow.Author.Tests.{eqb-true, eqb-false}
-use Rattle.formats.specs.Checks.{if◌then◌else◌, Res, refused, passed, ◌>>=◌, ◌>>◌, ◌or_else◌, all, same, Ok}
+use Rattle.std.specs.Prelude.{if◌then◌else◌}
+use Rattle.formats.specs.Checks.{Res, refused, passed, ◌>>=◌, ◌>>◌, ◌or_else◌, all, same, Ok}
 
 -- ---- choices and tests
 
 -- what holds on both ways of a test holds of the choice
-pub if_case {ℓ} : {A : Type ℓ} (P : A → Type 0) (t : Bool) {x y : A} → (t ≡ true → P x) → (t ≡ false → P y) → P (if t then x else y)
+pub if_case : {A : Type 0} (P : A → Type 0) (t : Bool) {x y : A} → (t ≡ true → P x) → (t ≡ false → P y) → P (if t then x else y)
 if_case P true f g = f refl
 if_case P false f g = g refl
 

@@ -3,7 +3,8 @@
 -- 01, 'The wire': "Formats: h is two hex digits, d three decimal digits to 255, 2d four decimal digits to 9999."
 use Rattle.std.specs.Prelude.{ℕ, zero, suc, ◌+◌, ◌*◌, ◌-◌, ◌/◌, ◌%◌, min, Bool, ◌&&◌, not, List, [], ◌∷◌, ◌++◌, map, length, leb, ltb, eqb}
 use Prim.Native.Char.{code}
-use Rattle.formats.specs.Checks.{if◌then◌else◌, Res, passed, ◌>>=◌, ◌>>◌, ◌or_else◌, all, text}
+use Rattle.std.specs.Prelude.{if◌then◌else◌}
+use Rattle.formats.specs.Checks.{Res, passed, ◌>>=◌, ◌>>◌, ◌or_else◌, all, text}
 
 -- the last n digits of v to a base
 unfoldable pub digits : ℕ → ℕ → ℕ → List ℕ

@@ -1,7 +1,7 @@
 -- Eight bytes as a line, and a line as eight bytes.
 -- 01, 'Variables': "A line is 8 bytes. [...] Times and counts are at most 9999." 02, item 4: "Reading eight bytes now answers State, For, Next or Bad".
 use Rattle.std.specs.Prelude.{ℕ, ◌^◌, ◌≤◌, ◌<◌, Bool, true, false, ◌&&◌, List, ◌∷◌, ◌++◌, get_or, replicate, leb, eqb}
-use Rattle.formats.specs.Checks.{if◌then◌else◌}
+use Rattle.std.specs.Prelude.{if◌then◌else◌}
 use Rattle.formats.specs.Bytes.{field, bytes}
 use Rattle.lines.specs.declared.Line.{Line}
 use Rattle.lines.specs.declared.Line.TheVariants.{State, For, Next, Bad}

@@ -3,7 +3,7 @@
 #![tactic(auto)]
 
 ghost use Rattle.std.specs.Prelude.{◌≡◌, ◌&&◌, ◌+◌, ◌*◌, ◌≤◌, ◌<◌, length, eqb, leb};
-ghost use Rattle.formats.specs.Checks.{if◌then◌else◌};
+ghost use Rattle.std.specs.Prelude.{if◌then◌else◌};
 ghost use Rattle.lines.specs.declared.Line.TheVariants.{State, For, Next, Bad};
 ghost use Rattle.lines.specs.Line.{end_mark, is_counter, is_end, is_bad, for_counter, counter_of, read_line, bytes_of};
 ghost use Rattle.lines.specs.Program.{IsProgram, line_at, put_line, is_next_of, next_after};

@@ -3,7 +3,8 @@
 -- its reading begin and end, in ticks and in minutes and seconds, and the total: the table that the person at the trough lamps wants". 02, item 1: "a
 -- refusal is printed as E and three digits, here and later."
 use Rattle.std.specs.Prelude.{ℕ, ◌+◌, ◌/◌, ◌%◌, Bool, true, List, [], ◌∷◌, ◌++◌, ◌≡◌, replicate, eqb}
-use Rattle.formats.specs.Checks.{if◌then◌else◌, Res, refused, passed, text}
+use Rattle.std.specs.Prelude.{if◌then◌else◌}
+use Rattle.formats.specs.Checks.{Res, refused, passed, text}
 use Rattle.formats.specs.Digits.{shown, decimal, error_text}
 use Rattle.planner.specs.declared.Move.{Move}
 use Rattle.planner.specs.declared.Answer.{Answer}

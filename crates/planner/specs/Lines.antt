@@ -2,7 +2,7 @@
 -- 02, item 10: "It writes the 200 program lines: long times become a For, State, Next and a remainder, and a last end mark with all outputs off; lines
 -- after that are end marks."
 use Rattle.std.specs.Prelude.{ℕ, ◌*◌, ◌-◌, ◌/◌, ◌%◌, List, [], ◌∷◌, ◌++◌, length, replicate, leb, eqb}
-use Rattle.formats.specs.Checks.{if◌then◌else◌}
+use Rattle.std.specs.Prelude.{if◌then◌else◌}
 use Rattle.formats.specs.Writing.{Wrote}
 use Rattle.lines.specs.declared.Line.{Line}
 use Rattle.lines.specs.declared.Line.TheVariants.{State, For, Next}

@@ -2,7 +2,8 @@
 -- 02, item 10: "A plan has 1 to 16 weight moves; each has a 32-bit word for the move, a settling time, a word for the reading and a reading time, each
 -- time 1 to 600,000 ticks."
 use Rattle.std.specs.Prelude.{ℕ, ◌+◌, ◌*◌, ◌-◌, ◌^◌, ◌≤◌, ◌<◌, Bool, ◌&&◌, List, [], ◌∷◌, length, get_or, leb, ltb}
-use Rattle.formats.specs.Checks.{if◌then◌else◌, all}
+use Rattle.std.specs.Prelude.{if◌then◌else◌}
+use Rattle.formats.specs.Checks.{all}
 use Rattle.planner.specs.declared.Move.{Move}
 
 -- move k of a plan that is lent as numbers, four for each move in the paper's order

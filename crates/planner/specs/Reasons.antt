@@ -1,7 +1,7 @@
 -- The reasons of refusals, in the words of the sentence.
 -- 02, item 10: "Refusals, in order, nothing written: 030, 070 no or too many moves, 071 a time outside its range."
 use Rattle.std.specs.Prelude.{ℕ, ◌+◌, ◌*◌, ◌≤◌, ◌≡◌, ◌≢◌, List, length, get_or, eqb}
-use Rattle.formats.specs.Checks.{if◌then◌else◌}
+use Rattle.std.specs.Prelude.{if◌then◌else◌}
 use Rattle.planner.specs.Plan.{InRange}
 
 -- The numbers are 1 to 16 whole moves.

@@ -4,7 +4,8 @@ use mathlib.Core.Path.{◌≡◌, refl}
 use Prim.Native.Nat.{ℕ, zero, suc, ◌*◌, ◌-◌}
 use mathlib.Core.List.{List, [], ◌∷◌, ◌++◌, map}
 use lib.ListN.{take, drop}
-use Rattle.formats.specs.Checks.{if◌then◌else◌, same, text}
+use Rattle.std.specs.Prelude.{if◌then◌else◌}
+use Rattle.formats.specs.Checks.{same, text}
 use Rattle.plantext.specs.declared.Reader.{Reader}
 use Rattle.plantext.specs.Text.{hex_value}
 use Rattle.plantext.specs.Reading.{base, digits_after, value_after, character, wrong, missing, moves_after, stored_after, field_after, field_end, closed}

@@ -11,7 +11,8 @@ use mathlib.Core.List.{List, [], ◌∷◌, map}
 use lib.ListN.{length, length-map}
 use lib.Dec.{leb, ltb, eqb}
 use borrow.Author.Tests.{leb-true, le-leb, lt-leb, ltb-true, eqb-true}
-use Rattle.formats.specs.Checks.{if◌then◌else◌, all}
+use Rattle.std.specs.Prelude.{if◌then◌else◌}
+use Rattle.formats.specs.Checks.{all}
 use Rattle.formats.specs.Digits.{number, digit_value}
 use Rattle.formats.specs.Worth.{digit_worth, worth, are_digits, ReadAs}
 use Rattle.formats.proofs.Checks.{both_true, by_both}

@@ -1,6 +1,6 @@
 -- How the code reads a text, one character after the other. Text and Faults say what it must come to, and a reader need not hold this against the paper.
 use Rattle.std.specs.Prelude.{ℕ, ◌+◌, ◌*◌, ◌/◌, ◌%◌, min, Bool, true, false, List, [], ◌∷◌, set, replicate, leb, ltb, eqb}
-use Rattle.formats.specs.Checks.{if◌then◌else◌}
+use Rattle.std.specs.Prelude.{if◌then◌else◌}
 use Rattle.plantext.specs.declared.Reader.{Reader}
 use Rattle.plantext.specs.Text.{is_blank, is_hash, hex_value}
 use Rattle.plantext.specs.Kept.{most, room, most_line}

@@ -4,7 +4,8 @@
 -- blanks or tabs between; empty lines and what follows a `#` are passed over; LF or CR LF, the last may lack it."
 use Rattle.std.specs.Prelude.{ℕ, ◌+◌, ◌-◌, ◌<◌, Bool, true, not, ◌&&◌, ◌||◌, List, [], ◌∷◌, ◌++◌, map, ◌≡◌, length, leb, ltb, eqb}
 use Prim.Native.Char.{code}
-use Rattle.formats.specs.Checks.{if◌then◌else◌, all}
+use Rattle.std.specs.Prelude.{if◌then◌else◌}
+use Rattle.formats.specs.Checks.{all}
 use Rattle.formats.specs.Digits.{number, digit_value}
 
 -- ---- characters

@@ -1,7 +1,7 @@
 -- Nobody has to believe this: it says how the code goes, and no theorem speaks of it.
 -- What a call leaves before its loops are freed. Who wants to know why a program stopped finds in it what the counters held.
 use Rattle.std.specs.Prelude.{ℕ, ◌≡◌, List, eqb}
-use Rattle.formats.specs.Checks.{if◌then◌else◌}
+use Rattle.std.specs.Prelude.{if◌then◌else◌}
 use Rattle.running.specs.declared.Run.{Run}
 use Rattle.running.specs.declared.Ran.{Ran}
 use Rattle.running.specs.Running.{stops, run_due, most}

@@ -1,7 +1,8 @@
 -- The lines that a run goes through, one behind the other by the running rules, and the For that holds a counter.
 -- 02, item 9: "for 006 the line of the For that holds the counter, [...] for 013 the State line last held, if any".
 use Rattle.std.specs.Prelude.{ℕ, suc, ◌+◌, ◌<◌, ◌≡◌, true, List, [], ◌∷◌, ◌++◌, length}
-use Rattle.formats.specs.Checks.{if◌then◌else◌, all}
+use Rattle.std.specs.Prelude.{if◌then◌else◌}
+use Rattle.formats.specs.Checks.{all}
 use Rattle.lines.specs.declared.Line.TheVariants.{State, For}
 use Rattle.lines.specs.Program.{line_at, is_next_of}
 use Rattle.running.specs.declared.Run.{Run}

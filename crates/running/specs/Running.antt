@@ -1,7 +1,7 @@
 -- The running rules: what a start and a tick do, by the program alone.
 -- 01, 'Running': "Lines run inside the start call or tick in which they fall due."
 use Rattle.std.specs.Prelude.{ℕ, zero, suc, ◌+◌, ◌-◌, Bool, true, false, not, List, get_or, set, replicate, ltb, eqb}
-use Rattle.formats.specs.Checks.{if◌then◌else◌}
+use Rattle.std.specs.Prelude.{if◌then◌else◌}
 use Rattle.lines.specs.declared.Line.{Line}
 use Rattle.lines.specs.declared.Line.TheVariants.{State, For, Next, Bad}
 use Rattle.lines.specs.Program.{line_at, next_after}

@@ -9,7 +9,8 @@ use mathlib.Core.List.{List, [], ◌∷◌, ◌++◌}
 use lib.Dec.{eqb, lit<}
 use lib.ListN.{get_or}
 use borrow.Author.Tests.{eqb-true}
-use Rattle.formats.specs.Checks.{if◌then◌else◌, Res, refused, passed}
+use Rattle.std.specs.Prelude.{if◌then◌else◌}
+use Rattle.formats.specs.Checks.{Res, refused, passed}
 use Rattle.formats.proofs.Checks.{all_below, below}
 use Rattle.special.specs.declared.Mode.{Mode}
 use Rattle.special.specs.declared.Mode.TheVariants.{Stop, Pause, Auto}

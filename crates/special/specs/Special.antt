@@ -1,7 +1,8 @@
 -- The special commands.
 -- 01, 'Special commands', and its table; 02, item 3.
 use Rattle.std.specs.Prelude.{ℕ, Bool, true, false, eqb, leb}
-use Rattle.formats.specs.Checks.{if◌then◌else◌, Res, refused, passed}
+use Rattle.std.specs.Prelude.{if◌then◌else◌}
+use Rattle.formats.specs.Checks.{Res, refused, passed}
 use Rattle.special.specs.declared.Mode as M
 use Rattle.special.specs.declared.Mode.{Mode}
 use Rattle.special.specs.declared.Special.{Special}

@@ -2,7 +2,8 @@
 -- 01, 'Variables': "Wire forms: `S 00 X4 X3 X2 X1 TTTT`, `F C XXXX`, `N C`."
 use Rattle.std.specs.Prelude.{◌≡◌, ◌≢◌, ℕ, List, [], ◌++◌, length, get_or, ltb, eqb}
 use Prim.Native.Char.{code}
-use Rattle.formats.specs.Checks.{if◌then◌else◌, Res, passed, ◌>>=◌, ◌>>◌, ◌or_else◌, text}
+use Rattle.std.specs.Prelude.{if◌then◌else◌}
+use Rattle.formats.specs.Checks.{Res, passed, ◌>>=◌, ◌>>◌, ◌or_else◌, text}
 use Rattle.formats.specs.Digits.{shown, number_in}
 use Rattle.lines.specs.declared.Line.{Line}
 use Rattle.lines.specs.declared.Line.TheVariants.{State, For, Next, Bad}

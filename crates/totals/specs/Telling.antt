@@ -3,7 +3,8 @@
 -- the totals [...]; 4,294,967,295 makes it 'or more'". docs/programs/totals.md has the lines and the messages. 02, item 1: "a refusal is printed as E and
 -- three digits, here and later."
 use Rattle.std.specs.Prelude.{ℕ, ◌+◌, ◌-◌, ◌≤◌, Bool, true, false, List, [], ◌∷◌, ◌++◌, ◌≢◌, ◌≡◌, length, take, replicate, eqb}
-use Rattle.formats.specs.Checks.{if◌then◌else◌, Res, refused, passed, text, same}
+use Rattle.std.specs.Prelude.{if◌then◌else◌}
+use Rattle.formats.specs.Checks.{Res, refused, passed, text, same}
 use Rattle.formats.specs.Digits.{shown, decimal, error_text}
 use Rattle.reader.specs.declared.Record.{Record}
 use Rattle.reader.specs.declared.Layout.TheVariants.{Sixteen}

@@ -1,7 +1,7 @@
 -- The 217 variables: what a read of each answers.
 -- 01, 'Variables', its table.
 use Rattle.std.specs.Prelude.{ℕ, ◌+◌, ◌*◌, ◌-◌, Bool, ◌&&◌, List, get_or, set, leb, eqb}
-use Rattle.formats.specs.Checks.{if◌then◌else◌}
+use Rattle.std.specs.Prelude.{if◌then◌else◌}
 use Rattle.formats.specs.Digits.{number, h, d, 2d}
 use Rattle.formats.specs.Bytes.{bytes}
 use Rattle.lines.specs.declared.Line.{Line}

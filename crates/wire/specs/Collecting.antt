@@ -3,7 +3,7 @@
 -- At most 32 characters are kept; a 33rd makes the command overlong until its 13."
 use Rattle.std.specs.Prelude.{ℕ, ◌+◌, ◌-◌, true, false, ◌&&◌, List, take, set, replicate, leb, ltb, eqb}
 use Prim.Native.Char.{code}
-use Rattle.formats.specs.Checks.{if◌then◌else◌}
+use Rattle.std.specs.Prelude.{if◌then◌else◌}
 use Rattle.wire.specs.declared.Wire.{Wire}
 
 abbrev pub most_chars : ℕ

@@ -1,7 +1,8 @@
 -- A finished command: the seven checks of 01, 'The wire', in its order, and what it asks for.
 use Rattle.std.specs.Prelude.{ℕ, ◌-◌, Bool, true, not, ◌&&◌, ◌||◌, List, length, get_or, drop, leb, eqb}
 use Prim.Native.Char.{code}
-use Rattle.formats.specs.Checks.{if◌then◌else◌, Res, passed, ◌>>=◌, ◌>>◌, ◌or_else◌}
+use Rattle.std.specs.Prelude.{if◌then◌else◌}
+use Rattle.formats.specs.Checks.{Res, passed, ◌>>=◌, ◌>>◌, ◌or_else◌}
 use Rattle.formats.specs.Digits.{number_in, h_in, d_in}
 use Rattle.formats.specs.Bytes.{part}
 use Rattle.texts.specs.Text.{line_in}

@@ -6,7 +6,8 @@ use mathlib.Core.Bool.{Bool, true, false}
 use mathlib.Core.List.{List, [], ◌∷◌, ◌++◌}
 use Prim.Native.Nat.{ℕ, ◌≤◌}
 use borrow.Author.Tests.{leb-true, not-true}
-use Rattle.formats.specs.Checks.{if◌then◌else◌, text}
+use Rattle.std.specs.Prelude.{if◌then◌else◌}
+use Rattle.formats.specs.Checks.{text}
 use Rattle.formats.specs.Digits.{digits, shown, d}
 use Rattle.lines.specs.declared.Line.TheVariants.{State, Bad}
 use Rattle.lines.specs.Program.{line_at}

@@ -9,7 +9,8 @@ use native.Mathlib.Omega.{arith}
 use lib.ListN.{length}
 use lib.Dec.{eqb}
 use borrow.Author.Tests.{eqb-true, leb-true, ltb-true, not-true}
-use Rattle.formats.specs.Checks.{if◌then◌else◌, text, passed, all}
+use Rattle.std.specs.Prelude.{if◌then◌else◌}
+use Rattle.formats.specs.Checks.{text, passed, all}
 use Rattle.formats.proofs.Checks.{both_true}
 use Rattle.lines.specs.Line.{is_bad}
 use Rattle.lines.specs.Program.{line_at}

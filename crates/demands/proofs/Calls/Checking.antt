@@ -11,7 +11,8 @@ use lib.ListN.{length, take, length-map}
 use lib.Seq.{take_all, length-take-le}
 use lib.Dec.{eqb, leb}
 use borrow.Author.Tests.{eqb-true, eqb-false, ne_eqb, leb-true, leb-false, lt-ltb, le-ltb}
-use Rattle.formats.specs.Checks.{if◌then◌else◌, Res, refused, passed, ◌>>=◌, ◌>>◌, ◌or_else◌}
+use Rattle.std.specs.Prelude.{if◌then◌else◌}
+use Rattle.formats.specs.Checks.{Res, refused, passed, ◌>>=◌, ◌>>◌, ◌or_else◌}
 use Rattle.formats.specs.Digits.{h, h_in, d, d_in}
 use Rattle.formats.proofs.Checks.{if_case, either_true, ok_at}
 use Rattle.formats.proofs.Order.{none_yet}

@@ -8,7 +8,8 @@ use lib.ListN.{length, take, drop}
 use lib.Seq.{take_at}
 use lib.Dec.{eqb}
 use borrow.Author.Tests.{eqb-true}
-use Rattle.formats.specs.Checks.{if◌then◌else◌, Res, refused, passed, text}
+use Rattle.std.specs.Prelude.{if◌then◌else◌}
+use Rattle.formats.specs.Checks.{Res, refused, passed, text}
 use Rattle.formats.proofs.Checks.{if_case}
 use Rattle.special.specs.declared.Special.{Special}
 use Rattle.special.specs.declared.Special.TheVariants.{Stop, Pause, Start, Continue, StartAt, Execute, Load, Save}

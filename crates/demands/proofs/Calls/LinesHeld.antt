@@ -8,7 +8,8 @@ use mathlib.Core.List.{List, [], ◌∷◌, ◌++◌, head-eq_of_cons-eq}
 use lib.ListN.{length}
 use lib.Dec.{eqb, leb}
 use borrow.Author.Tests.{le-leb}
-use Rattle.formats.specs.Checks.{if◌then◌else◌, Res, refused, passed, ◌>>=◌, text, Ok}
+use Rattle.std.specs.Prelude.{if◌then◌else◌}
+use Rattle.formats.specs.Checks.{Res, refused, passed, ◌>>=◌, text, Ok}
 use Rattle.formats.specs.Digits.{error_text}
 use Rattle.formats.proofs.Checks.{ok_at, and_false, and_swap}
 use Rattle.lines.specs.declared.Line.{Line}

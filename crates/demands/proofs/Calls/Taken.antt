@@ -7,7 +7,8 @@ use Prim.Native.Nat.{ℕ}
 use mathlib.Core.Bool.{Bool, true, false, not, true≢false}
 use mathlib.Core.List.{List, [], ◌∷◌, ◌++◌}
 use borrow.Author.Tests.{eq-eqb}
-use Rattle.formats.specs.Checks.{if◌then◌else◌, refusal_of as refused_by, Res, refused, passed, ◌>>◌, ◌or_else◌, all}
+use Rattle.std.specs.Prelude.{if◌then◌else◌}
+use Rattle.formats.specs.Checks.{refusal_of as refused_by, Res, refused, passed, ◌>>◌, ◌or_else◌, all}
 use Rattle.boxlog.specs.Log.{places, held_bytes}
 use Rattle.controller.specs.declared.Controller.{Controller}
 use Rattle.controller.specs.Controller.{Areas}

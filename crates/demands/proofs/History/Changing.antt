@@ -6,7 +6,8 @@ use mathlib.Core.Bool.{true, false}
 use mathlib.Core.List.{List, [], ◌∷◌}
 use lib.Dec.{eqb}
 use borrow.Author.Tests.{eq-eqb}
-use Rattle.formats.specs.Checks.{if◌then◌else◌, Res}
+use Rattle.std.specs.Prelude.{if◌then◌else◌}
+use Rattle.formats.specs.Checks.{Res}
 use Rattle.running.specs.declared.Run.{Run}
 use Rattle.wire.specs.declared.Asked.{Asked}
 use Rattle.boxlog.specs.declared.Change.{Change}

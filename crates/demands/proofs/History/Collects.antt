@@ -9,7 +9,7 @@ use lib.ListN.{length, take, length-append, length-take, length-map}
 use lib.Seq.{take-append-le, take_all, length-take-le}
 use lib.Dec.{eqb, ltb}
 use borrow.Author.Tests.{ltb-true, ltb-false, lt-ltb, le-ltb}
-use Rattle.formats.specs.Checks.{if◌then◌else◌}
+use Rattle.std.specs.Prelude.{if◌then◌else◌}
 use Rattle.formats.proofs.Loops.{map_snoc}
 use Rattle.wire.specs.declared.Wire.{Wire}
 use Rattle.wire.specs.Collecting.{most_chars, collect, sent}

@@ -6,7 +6,7 @@ use native.Mathlib.Omega.{arith}
 use mathlib.Core.Bool.{Bool, true, false, ◌&&◌, true≢false}
 use lib.Dec.{eqb}
 use borrow.Author.Tests.{ne_eqb}
-use Rattle.formats.specs.Checks.{if◌then◌else◌}
+use Rattle.std.specs.Prelude.{if◌then◌else◌}
 use Rattle.controller.specs.declared.Controller.{Controller}
 use Rattle.controller.specs.Deeds.{Deed}
 use Rattle.controller.specs.Refusals.{Call, power_on, byte, tick, press, emptying}

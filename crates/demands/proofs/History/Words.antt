@@ -9,7 +9,8 @@ use mathlib.Core.List.{List}
 use mathlib.Core.Option.{Option, none, some}
 use lib.Dec.{eqb, leb}
 use borrow.Author.Tests.{eq-eqb, ne_eqb, leb-true, leb-false}
-use Rattle.formats.specs.Checks.{if◌then◌else◌, Res, refused, passed, all, Ok}
+use Rattle.std.specs.Prelude.{if◌then◌else◌}
+use Rattle.formats.specs.Checks.{Res, refused, passed, all, Ok}
 use Rattle.formats.specs.Digits.{digits, number_after, number, h_in}
 use Rattle.formats.specs.Bytes.{bytes}
 use Rattle.formats.proofs.Checks.{if_case}

@@ -10,7 +10,7 @@ use mathlib.Core.List.{List, [], ◌∷◌, ◌++◌, append-nil}
 use lib.ListN.{length, take, drop}
 use lib.Dec.{eqb}
 use borrow.Author.Tests.{eq-eqb}
-use Rattle.formats.specs.Checks.{if◌then◌else◌}
+use Rattle.std.specs.Prelude.{if◌then◌else◌}
 use Rattle.boxlog.specs.declared.Change.{Change}
 use Rattle.boxlog.specs.declared.Log.{Log}
 use Rattle.boxlog.specs.Record.{record_size, least_area}

@@ -8,7 +8,8 @@ use mathlib.Core.List.{List, [], ◌∷◌, ◌++◌}
 use mathlib.Core.Option.{none}
 use lib.Dec.{eqb, leb}
 use borrow.Author.Tests.{ne_eqb, le-leb}
-use Rattle.formats.specs.Checks.{if◌then◌else◌, passed, text}
+use Rattle.std.specs.Prelude.{if◌then◌else◌}
+use Rattle.formats.specs.Checks.{passed, text}
 use Rattle.formats.specs.Digits as Digits
 use Rattle.formats.specs.Digits.{digits, d}
 use Rattle.formats.proofs.Checks.{if_case, neither, both_false}

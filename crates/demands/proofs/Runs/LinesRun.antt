@@ -6,7 +6,8 @@ use mathlib.Core.Bool.{Bool, true, false, true≢false}
 use mathlib.Core.List.{List}
 use lib.Dec.{eqb}
 use borrow.Author.Tests.{eqb-true}
-use Rattle.formats.specs.Checks.{if◌then◌else◌, Res, passed}
+use Rattle.std.specs.Prelude.{if◌then◌else◌}
+use Rattle.formats.specs.Checks.{Res, passed}
 use Rattle.formats.proofs.Checks.{if_case, either_true}
 use Rattle.running.specs.declared.Run.{Run}
 use Rattle.running.specs.Running.{start, tick}

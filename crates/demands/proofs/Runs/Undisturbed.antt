@@ -8,7 +8,8 @@ use mathlib.Core.List.{List, [], ◌∷◌}
 use mathlib.Core.Option.{Option, none, some}
 use lib.Dec.{eqb}
 use borrow.Author.Tests.{eqb-true, eqb-false}
-use Rattle.formats.specs.Checks.{if◌then◌else◌, Res}
+use Rattle.std.specs.Prelude.{if◌then◌else◌}
+use Rattle.formats.specs.Checks.{Res}
 use Rattle.formats.proofs.Checks.{both_false, neither, if_case, not_so}
 use Rattle.wire.specs.declared.Asked.{Asked}
 use Rattle.running.specs.declared.Run.{Run}
