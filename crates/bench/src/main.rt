@@ -1,6 +1,6 @@
 // The program bench of 01: a box on standard input, or a file that an argument names, and standard output.
 #![tactic(auto)]
 
-fn main() {
-    console::run(b"bench [FILE]");
+fn main(rt: HostRuntime) {
+    console::run(&rt, b"bench [FILE]");
 }

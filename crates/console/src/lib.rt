@@ -151,7 +151,7 @@ fn heard(
 // What is gathered goes out, input is read once, and what came is fed to the box.
 fn turn(
     b: SwitchBox,
-    input: Input,
+    input: &Input,
     output: Output,
     program: &mut [u8],
     saved: &mut [u8],
@@ -179,6 +179,7 @@ fn turn(
 
 // Input to its end. A proved loop has to end, so it counts its turns down, from a number that no run uses up.
 fn turns(
+    rt: &HostRuntime,
     b: SwitchBox,
     input: Input,
     program: &mut [u8],
@@ -190,10 +191,10 @@ fn turns(
     ensures ends { Ends result (holding result.held program.new saved.new log.new) block.new }
 {
     let mut s = b;
-    let mut o = Output::new();
+    let mut o = Output::new(rt);
     let mut left = u64::MAX;
     while left > 0 {
-        let n = turn(s, input, o, program, saved, log, block);
+        let n = turn(s, &input, o, program, saved, log, block);
         if !n.on {
             return n;
         }
@@ -210,19 +211,27 @@ fn turns(
 
 // A box with an all-zero saved copy and the smallest log, from power-on to the end of the input: of standard input, or of the file that an
 // argument names.
-pub fn run(usage: &[u8]) {
+pub fn run(rt: &HostRuntime, usage: &[u8]) {
     let mut program = [0u8; lines::PROGRAM];
     let mut saved = [0u8; lines::PROGRAM];
     let mut log = [0u8; boxlog::LEAST_AREA];
     let mut block = [0u8; 4096];
-    if !arguments::fit(1, 1, usage) {
+    if !arguments::fit(rt, 1, 1, usage) {
         return;
     }
-    let input = Input::from(1);
+    let input = Input::from(rt, 1);
     if input.failed {
         return;
     }
     let a = SwitchBox::power_on(&mut program, &saved, &log);
     let held = a.next;
-    turns(held, input, &mut program, &mut saved, &mut log, &mut block);
+    turns(
+        rt,
+        held,
+        input,
+        &mut program,
+        &mut saved,
+        &mut log,
+        &mut block,
+    );
 }

@@ -2,6 +2,6 @@
 // expects.
 #![tactic(auto)]
 
-fn main() {
-    console::run(b"corners [FILE]");
+fn main(rt: HostRuntime) {
+    console::run(&rt, b"corners [FILE]");
 }

@@ -1,7 +1,7 @@
 -- 01, 'Calls and what is lent', computed: each refusal at both its edges, and the order of the checks where two apply.
 use Rattle.std.specs.Prelude.{List, [], ◌∷◌, ◌++◌, ℕ}
 use Rattle.controller.specs.Refusals.{power_on, byte, tick, press, emptying}
-use Rattle.demands.specs.Exchanges.{Lent, Point, point, ◌⇒◌, try, empties, at_tick, change, gap, program, log}
+use Rattle.demands.specs.Exchanges.{Lent, Point, point, ◌⇒◌, try, empties, at_tick, change, gap}
 
 -- lengths of the program area, the saved copy, the log, and the reply or destination; 0 for what a call is not lent
 abbrev pub lent : ℕ → ℕ → ℕ → ℕ → Lent

@@ -18,7 +18,7 @@ struct Tally {
 }
 
 // The same, what is left of the input, and whether there may be another program.
-#[derive(Clone, Copy)]
+#[derive(Drop)]
 struct Progress {
     input: Input,
     output: Output,
@@ -75,10 +75,10 @@ fn turn(input: Input, output: Output, block: &mut [u8], total: u64) -> Progress
 }
 
 // Input to its end. A proved loop has to end, so it counts its turns down, from a number that no run uses up.
-fn turns(input: Input, block: &mut [u8]) -> Progress
+fn turns(rt: &HostRuntime, input: Input, block: &mut [u8]) -> Progress
     ensures ends { Ends result block.new }
 {
-    let output = Output::new();
+    let output = Output::new(rt);
     let mut n = Progress {
         input,
         output,
@@ -104,12 +104,12 @@ fn told_total(n: Progress, block: &mut [u8]) -> Output
     put_answer(n.output, block, duration::total_told(n.total))
 }
 
-fn main() {
+fn main(rt: HostRuntime) {
     let mut block = [0u8; 4096];
-    if !arguments::fit(1, usize::MAX, b"durations [FILE...]") {
+    if !arguments::fit(&rt, 1, usize::MAX, b"durations [FILE...]") {
         return;
     }
-    let n = turns(Input::from(1), &mut block);
+    let n = turns(&rt, Input::from(&rt, 1), &mut block);
     if n.input.failed {
         n.output.flushed(&block);
         return;

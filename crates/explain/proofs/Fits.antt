@@ -150,4 +150,4 @@ lines_within p limit a = both (both (first_within a) (one_within 10)) (both (sen
 -- In a block of 512 bytes, of which none wait, what is told waits whole, and no write has failed.
 pub told_whole : (p : List ℕ) (limit : ℕ) (a : Answer) {o r : Output} {block block' : List ℕ} → length block ≡ 512 → gathered o block ≡ []
     → Follows o block (two_lines p limit a) r block' → (gathered r block' ≡ two_lines p limit a) × (r.open ≡ o.open)
-told_whole p limit a size none f = waits_whole (lines_within p limit a) (omega (arith, size)) none f
+told_whole p limit a {block = block} size none f = waits_whole {block = block} (lines_within p limit a) (omega (arith, size)) none f

@@ -12,25 +12,25 @@ mod telling;
 // One byte more than a program has: a file that fills it is none, and its rest is not read.
 const MORE_THAN_A_PROGRAM: usize = lines::PROGRAM + 1;
 
-fn main() {
+fn main(rt: HostRuntime) {
     let usage = b"explain [START [LIMIT [FILE]]]";
-    if !arguments::fit(1, 3, usage) {
+    if !arguments::fit(&rt, 1, 3, usage) {
         return;
     }
-    let Written::Is(start) = arguments::number(1, 0, usage) else {
+    let Written::Is(start) = arguments::number(&rt, 1, 0, usage) else {
         return;
     };
-    let Written::Is(limit) = arguments::number(2, explanation::MOST_TICKS, usage) else {
+    let Written::Is(limit) = arguments::number(&rt, 2, explanation::MOST_TICKS, usage) else {
         return;
     };
     let mut program = [0u8; MORE_THAN_A_PROGRAM];
-    let input = Input::from(3);
-    let p = input.piece(Output::new(), &[], &mut program);
+    let input = Input::from(&rt, 3);
+    let p = input.piece(Output::new(&rt), &[], &mut program);
     if p.input.failed {
         return;
     }
     let n = p.count;
     let mut block = [0u8; 512];
-    let output = telling::told_whole(&mut block, &program[..n], start, limit);
+    let output = telling::told_whole(&rt, &mut block, &program[..n], start, limit);
     output.flushed(&block);
 }

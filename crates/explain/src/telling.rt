@@ -286,10 +286,10 @@ fn told(output: Output, block: &mut [u8], p: &[u8], start: u64, limit: u64) -> O
 }
 
 // The same where nothing is gathered yet, and the block has room for all of it.
-pub fn told_whole(block: &mut [u8], p: &[u8], start: u64, limit: u64) -> Output
+pub fn told_whole(rt: &HostRuntime, block: &mut [u8], p: &[u8], start: u64, limit: u64) -> Output
     requires { length block.old ≡ 512 }
     ensures open { result.open ≡ true }
     ensures whole { gathered result block.new ≡ two_lines p.now limit (answer_of (report p.now start limit)) }
 {
-    told(Output::new(), block, p, start, limit)
+    told(Output::new(rt), block, p, start, limit)
 }

@@ -11,7 +11,7 @@ use lib.ListN.{length, take, get_or, length-map}
 use lib.Seq.{take-suc, take_all, length-take-le}
 use borrow.Author.Tests.{lt-ltb, le-ltb}
 use Rattle.formats.specs.Checks.{◌>>◌, ◌or_else◌, all}
-use Rattle.formats.specs.Digits.{digits, number_after, number, digit_value, is_digit, number_in}
+use Rattle.formats.specs.Digits.{number_after, number, digit_value, is_digit, number_in}
 use Rattle.formats.specs.declared.Number.TheVariants.{Is, No}
 use Rattle.formats.specs.Numbers.{number_or}
 use Rattle.formats.proofs.Checks.{all_snoc}

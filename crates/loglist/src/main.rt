@@ -8,18 +8,18 @@ use streams::{Output, arguments};
 // One byte more than the most that a log has: a file that fills it is too long, and its rest is not read.
 const MORE_THAN_MOST: usize = reader::MOST_BYTES + 1;
 
-fn main() {
+fn main(rt: HostRuntime) {
     let mut log = [0u8; MORE_THAN_MOST];
     let mut text = [0u8; reader::text::MOST_TEXT];
-    if !arguments::fit(1, 1, b"loglist [FILE]") {
+    if !arguments::fit(&rt, 1, 1, b"loglist [FILE]") {
         return;
     }
-    let input = Input::from(1);
-    let p = input.piece(Output::new(), &[], &mut log);
+    let input = Input::from(&rt, 1);
+    let p = input.piece(Output::new(&rt), &[], &mut log);
     if p.input.failed {
         return;
     }
     let n = p.count;
     let length = reader::text::list(&log[..n], &mut text);
-    streams::write_first(&text, length);
+    streams::write_first(&rt, &text, length);
 }

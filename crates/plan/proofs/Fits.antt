@@ -76,7 +76,7 @@ told_within check ns = go (planned ns zeros) refl
 -- In a block of 4096 bytes, of which none wait, what is told waits whole, and no write has failed.
 pub told_whole : (check : Bool) (ns : List ℕ) {o r : Output} {block block' : List ℕ} → length block ≡ 4096 → gathered o block ≡ []
     → Follows o block (told check ns) r block' → (gathered r block' ≡ told check ns) × (r.open ≡ o.open)
-told_whole check ns size none f = waits_whole (told_within check ns) (omega (arith, size)) none f
+told_whole check ns {block = block} size none f = waits_whole {block = block} (told_within check ns) (omega (arith, size)) none f
 
 -- ---- a text that is no plan
 

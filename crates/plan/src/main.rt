@@ -13,7 +13,7 @@ use streams::{Output, arguments};
 mod telling;
 
 // What was read, what is left of the input, and whether to read on.
-#[derive(Clone, Copy)]
+#[derive(Drop)]
 struct Progress {
     input: Input,
     reader: Reader,
@@ -28,11 +28,11 @@ struct Text {
 }
 
 // The next piece of the text. None is the end of the input, or a failure; behind a fault nothing more counts.
-fn turn(input: Input, reader: Reader) -> Progress
+fn turn(rt: &HostRuntime, input: Input, reader: Reader) -> Progress
     ensures reads { ReadOn reader result.reader }
 {
     let mut buffer = [0u8; 4096];
-    let p = input.piece(Output::new(), &[], &mut buffer);
+    let p = input.piece(Output::new(rt), &[], &mut buffer);
     let input = p.input;
     let n = p.count;
     if n == 0 {
@@ -48,7 +48,7 @@ fn turn(input: Input, reader: Reader) -> Progress
 }
 
 // Input to its end. A proved loop has to end, so it counts its turns down, from a number that no run uses up.
-fn turns(input: Input) -> Progress
+fn turns(rt: &HostRuntime, input: Input) -> Progress
     ensures reads { ReadOn begin result.reader }
 {
     let reader = plantext::begin();
@@ -59,7 +59,7 @@ fn turns(input: Input) -> Progress
     };
     let mut left = u64::MAX;
     while left > 0 {
-        n = turn(n.input, n.reader);
+        n = turn(rt, n.input, n.reader);
         if !n.on {
             return n;
         }
@@ -69,10 +69,10 @@ fn turns(input: Input) -> Progress
 }
 
 // The text of the input.
-fn read(input: Input) -> Text
+fn read(rt: &HostRuntime, input: Input) -> Text
     ensures reads { ReadFrom result.reader }
 {
-    let n = turns(input);
+    let n = turns(rt, input);
     let reader = n.reader.ended();
     Text {
         reader,
@@ -81,29 +81,29 @@ fn read(input: Input) -> Text
 }
 
 // What is told of a text that was read.
-fn tell(reader: Reader, check: bool) {
+fn tell(rt: &HostRuntime, reader: Reader, check: bool) {
     let mut block = [0u8; 4096];
     if reader.fault != 0 {
-        let message = telling::fault_whole(&mut block, reader.line, reader.fault);
+        let message = telling::fault_whole(rt, &mut block, reader.line, reader.fault);
         message.said(&block);
         return;
     }
-    let output = telling::told_read(&mut block, reader, check);
+    let output = telling::told_read(rt, &mut block, reader, check);
     output.flushed(&block);
 }
 
-fn main() {
-    let check = arguments::is(1, b"--check");
+fn main(rt: HostRuntime) {
+    let check = arguments::is(&rt, 1, b"--check");
     let mut from: usize = 1;
     if check {
         from = 2;
     }
-    if !arguments::fit(from, 1, b"plan [--check] [FILE]") {
+    if !arguments::fit(&rt, from, 1, b"plan [--check] [FILE]") {
         return;
     }
-    let t = read(Input::from(from));
+    let t = read(&rt, Input::from(&rt, from));
     if t.failed {
         return;
     }
-    tell(t.reader, check);
+    tell(&rt, t.reader, check);
 }

@@ -177,34 +177,40 @@ fn put_told(output: Output, block: &mut [u8], plan: &[u32], check: bool) -> Outp
 }
 
 // The same where nothing is gathered yet, and the block has room for all of it.
-fn told_whole(block: &mut [u8], plan: &[u32], check: bool) -> Output
+fn told_whole(rt: &HostRuntime, block: &mut [u8], plan: &[u32], check: bool) -> Output
     requires { length block.old ≡ 4096 }
     ensures open { result.open ≡ true }
     ensures whole { gathered result block.new ≡ told check plan.now }
 {
-    put_told(Output::new(), block, plan, check)
+    put_told(Output::new(rt), block, plan, check)
 }
 
 // The same for so many moves of these numbers, all where there are fewer.
-fn told_first(block: &mut [u8], numbers: &[u32], count: usize, check: bool) -> Output
+fn told_first(
+    rt: &HostRuntime,
+    block: &mut [u8],
+    numbers: &[u32],
+    count: usize,
+    check: bool,
+) -> Output
     requires { length block.old ≡ 4096 }
     ensures open { result.open ≡ true }
     ensures whole { gathered result block.new ≡ told check (take (4 * count) numbers.now) }
 {
     if count <= numbers.len() / 4 {
-        return told_whole(block, &numbers[..4 * count], check);
+        return told_whole(rt, block, &numbers[..4 * count], check);
     }
-    told_whole(block, numbers, check)
+    told_whole(rt, block, numbers, check)
 }
 
 // The same for a plan that was read.
-pub fn told_read(block: &mut [u8], reader: Reader, check: bool) -> Output
+pub fn told_read(rt: &HostRuntime, block: &mut [u8], reader: Reader, check: bool) -> Output
     requires { length block.old ≡ 4096 }
     ensures open { result.open ≡ true }
     ensures whole { gathered result block.new ≡ told check (numbers_of reader) }
 {
     let moves = reader.moves;
-    told_first(block, &moves, reader.count, check)
+    told_first(rt, block, &moves, reader.count, check)
 }
 
 // ---- a text that is no plan
@@ -261,9 +267,9 @@ fn put_fault_lines(output: Output, block: &mut [u8], line: u64, fault: u8) -> Ou
 }
 
 // The same where nothing is gathered yet, and the block has room for all of it.
-pub fn fault_whole(block: &mut [u8], line: u64, fault: u8) -> Output
+pub fn fault_whole(rt: &HostRuntime, block: &mut [u8], line: u64, fault: u8) -> Output
     requires { length block.old ≡ 4096 }
     ensures whole { gathered result block.new ≡ fault_lines line fault }
 {
-    put_fault_lines(Output::new(), block, line, fault)
+    put_fault_lines(Output::new(rt), block, line, fault)
 }

@@ -53,11 +53,11 @@ table_within i (c ∷ cs) b = room (84 * length (c ∷ cs) + 37) (both (line_wit
 module _ {o r : Output} {block block' : List ℕ} (size : length block ≡ 4096) (none : gathered o block ≡ []) where
   pub table_whole : (cs : List Channel) (b : Beside) → length cs ≡ 32 → Follows o block (table_of cs b) r block'
       → (gathered r block' ≡ table_of cs b) × (r.open ≡ o.open)
-  table_whole cs b count f = waits_whole (table_within 0 cs b) (omega (arith, size, count)) none f
+  table_whole cs b count f = waits_whole {block = block} (table_within 0 cs b) (omega (arith, size, count)) none f
 
   pub refusal_whole : (e : ℕ) → Follows o block (refusal_line e) r block' → (gathered r block' ≡ refusal_line e) × (r.open ≡ o.open)
   unfolding refusal_line
-  refusal_whole e f = waits_whole (both (error_within e) (one_within 10)) (omega (arith, size)) none f
+  refusal_whole e f = waits_whole {block = block} (both (error_within e) (one_within 10)) (omega (arith, size)) none f
 
 -- ---- the message of a refusal
 

@@ -31,14 +31,21 @@ struct Progress {
 }
 
 // The next log: all of the file that argument i names.
-fn turn(i: usize, log: &mut [u8], channels: [Channel; 32], beside: Beside) -> Progress
+fn turn(
+    rt: &HostRuntime,
+    i: usize,
+    log: &mut [u8],
+    channels: [Channel; 32],
+    beside: Beside,
+) -> Progress
     ensures turns { Turns i channels beside result log.new }
 {
-    let input = Input::file(i);
-    let p = input.piece(Output::new(), &[], log);
+    let input = Input::file(rt, i);
+    let p = input.piece(Output::new(rt), &[], log);
     let input = p.input;
+    let failed = input.failed;
     input.closed();
-    if input.failed {
+    if failed {
         return Progress {
             channels,
             beside,
@@ -90,7 +97,7 @@ fn begin() -> Progress
 }
 
 // The logs of the arguments below number `count`, one after the other, to the last one or to one that is refused or cannot be read.
-fn turns(count: usize, log: &mut [u8]) -> Progress
+fn turns(rt: &HostRuntime, count: usize, log: &mut [u8]) -> Progress
     ensures ends { Ends count result log.new }
 {
     let mut n = begin();
@@ -98,7 +105,7 @@ fn turns(count: usize, log: &mut [u8]) -> Progress
     while i < count {
         let channels = n.channels;
         let beside = n.beside;
-        n = turn(i, log, channels, beside);
+        n = turn(rt, i, log, channels, beside);
         if n.failed || n.refusal != 0 {
             return n;
         }
@@ -108,44 +115,51 @@ fn turns(count: usize, log: &mut [u8]) -> Progress
 }
 
 // What goes to standard output: the totals, or the refusal alone.
-fn told(n: Progress, log: &[u8], block: &mut [u8]) -> Output
+fn told(rt: &HostRuntime, n: Progress, log: &[u8], block: &mut [u8]) -> Output
     requires { ((count : ℕ) × Ends count n log.now) × (length block.old ≡ 4096) }
     ensures tells { Tells n log.now result block.new }
 {
     if n.refusal != 0 {
-        return telling::refusal_whole(block, n.refusal);
+        return telling::refusal_whole(rt, block, n.refusal);
     }
     let channels = n.channels;
     let beside = n.beside;
-    telling::table_whole(block, channels, beside)
+    telling::table_whole(rt, block, channels, beside)
 }
 
 // Which file is refused, and why, on standard error. No name of a file that can be opened is longer than the area for it.
-fn tell_refused(n: Progress, log: &[u8])
+fn tell_refused(rt: &HostRuntime, n: Progress, log: &[u8])
     requires { (count : ℕ) × Ends count n log.now }
 {
     let mut name = [0u8; 4096];
     let mut block = [0u8; 8192];
-    let k = arguments::word(n.name, &mut name);
+    let k = arguments::word(rt, n.name, &mut name);
     let length = n.length;
     let beside = n.beside;
-    let message = telling::message_whole(&mut block, &name[..k], n.refusal, beside, &log[..length]);
+    let message = telling::message_whole(
+        rt,
+        &mut block,
+        &name[..k],
+        n.refusal,
+        beside,
+        &log[..length],
+    );
     message.said(&block);
 }
 
-fn main() {
+fn main(rt: HostRuntime) {
     let mut log = [0u8; MORE_THAN_MOST];
     let mut block = [0u8; 4096];
-    if !arguments::fit(1, usize::MAX, b"totals [LOG...]") {
+    if !arguments::fit(&rt, 1, usize::MAX, b"totals [LOG...]") {
         return;
     }
-    let n = turns(arguments::count(), &mut log);
+    let n = turns(&rt, arguments::count(&rt), &mut log);
     if n.failed {
         return;
     }
-    let output = told(n, &log, &mut block);
+    let output = told(&rt, n, &log, &mut block);
     let sent = output.flushed(&block);
     if sent.open && n.refusal != 0 {
-        tell_refused(n, &log);
+        tell_refused(&rt, n, &log);
     }
 }

@@ -63,23 +63,28 @@ fn put_table(output: Output, block: &mut [u8], channels: [Channel; 32], beside: 
 }
 
 // The same where nothing is gathered yet, and the block has room for all of it.
-pub fn table_whole(block: &mut [u8], channels: [Channel; 32], beside: Beside) -> Output
+pub fn table_whole(
+    rt: &HostRuntime,
+    block: &mut [u8],
+    channels: [Channel; 32],
+    beside: Beside,
+) -> Output
     requires { length block.old ≡ 4096 }
     ensures open { result.open ≡ true }
     ensures whole { gathered result block.new ≡ table_of channels beside }
 {
-    put_table(Output::new(), block, channels, beside)
+    put_table(Output::new(rt), block, channels, beside)
 }
 
 // ---- a log that is refused
 
 // Its line on standard output, where nothing is gathered yet.
-pub fn refusal_whole(block: &mut [u8], refusal: u8) -> Output
+pub fn refusal_whole(rt: &HostRuntime, block: &mut [u8], refusal: u8) -> Output
     requires { length block.old ≡ 4096 }
     ensures open { result.open ≡ true }
     ensures whole { gathered result block.new ≡ refusal_line refusal }
 {
-    Output::new().put_error(block, refusal, 10)
+    Output::new(rt).put_error(block, refusal, 10)
 }
 
 // The file.
@@ -151,6 +156,7 @@ fn put_message(
 
 // The same where nothing is gathered yet, and the block has room for all of it.
 pub fn message_whole(
+    rt: &HostRuntime,
     block: &mut [u8],
     name: &[u8],
     refusal: u8,
@@ -160,5 +166,5 @@ pub fn message_whole(
     requires { (length block.old ≡ 8192) × (length name.now ≤ 4096) × HasFirst refusal log.now }
     ensures whole { gathered result block.new ≡ message_of name.now refusal beside log.now }
 {
-    put_message(Output::new(), block, name, refusal, beside, log)
+    put_message(Output::new(rt), block, name, refusal, beside, log)
 }

@@ -27,10 +27,11 @@ struct After {
     output: Output,
 }
 
-// The box, the output and the sizes after a record, and whether there may be more.
-#[derive(Clone, Copy)]
+// The box, what is left of the input, the output and the sizes after a record, and whether there may be more.
+#[derive(Drop)]
 struct Next {
     held: SwitchBox,
+    input: Input,
     output: Output,
     sizes: Sizes,
     on: bool,
@@ -272,8 +273,7 @@ fn one(
     After { held: b, output }
 }
 
-// The next record, if there is a whole one. At the end what is gathered goes out. Of one file nothing is read behind a piece that is cut short,
-// so that what is left of the input need not be handed on.
+// The next record, if there is a whole one. At the end what is gathered goes out.
 fn turn(
     b: SwitchBox,
     input: Input,
@@ -291,11 +291,14 @@ fn turn(
 {
     let mut bytes = [0u8; 4];
     let p = input.piece(output, block, &mut bytes);
+    let input = p.input;
     let output = p.output;
-    if p.count < 4 {
+    let count = p.count;
+    if count < 4 {
         let output = output.flushed(block);
         return Next {
             held: b,
+            input,
             output,
             sizes: s,
             on: false,
@@ -308,6 +311,7 @@ fn turn(
     let sizes = resized(s, r.op, r.number);
     Next {
         held,
+        input,
         output,
         sizes,
         on: true,
@@ -316,8 +320,9 @@ fn turn(
 
 // Records to the end of the input. A proved loop has to end, so it counts its turns down.
 fn turns(
+    rt: &HostRuntime,
     b: SwitchBox,
-    input: Input,
+    mut input: Input,
     program: &mut [u8],
     saved: &mut [u8],
     log: &mut [u8],
@@ -327,7 +332,7 @@ fn turns(
     requires { (Invariant b.controller) × (Buffers program.old saved.old log.old out.old) }
 {
     let mut held = b;
-    let mut output = Output::new();
+    let mut output = Output::new(rt);
     let mut sizes = Sizes {
         program: lines::PROGRAM,
         saved: lines::PROGRAM,
@@ -341,6 +346,7 @@ fn turns(
             return;
         }
         held = n.held;
+        input = n.input;
         output = n.output;
         sizes = n.sizes;
         left -= 1;
@@ -348,20 +354,21 @@ fn turns(
 }
 
 // A box that was refused power-on, buffers of zeros, and the records of the input.
-fn main() {
+fn main(rt: HostRuntime) {
     let mut program = [0u8; 1608];
     let mut saved = [0u8; 1608];
     let mut log = [0u8; 65544];
     let mut out = [0u8; 128];
     let mut block = [0u8; 4096];
-    if !arguments::fit(1, 1, b"trials [FILE]") {
+    if !arguments::fit(&rt, 1, 1, b"trials [FILE]") {
         return;
     }
-    let input = Input::from(1);
+    let input = Input::from(&rt, 1);
     // before any power-on the box is what a refused one returns; `out` is no program area
     let a = SwitchBox::power_on(&mut out, &saved, &log);
     let unpowered = a.next;
     turns(
+        &rt,
         unpowered,
         input,
         &mut program,

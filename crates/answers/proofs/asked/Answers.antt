@@ -1,7 +1,6 @@
 -- `answers::asked` meets its contract: by what the checks were heard to say, and for a read by the line that stands there.
 -- Assumes nothing.
 use mathlib.Core.Path.{sym, ◌∙◌}
-use borrow.Author.Rules.{rules}
 use Rattle.variables.specs.Variables.{is_bad_at}
 use Rattle.answers.proofs.Hearing.{error_heard, write_heard, read_heard, bad_heard, heard_of_lem}
 use Rattle.answers.proofs.asked.Goals as goal

@@ -1,7 +1,6 @@
 -- `answers::panel_read` meets its contract.
 -- Assumes nothing.
 use borrow.Author.Tests.{eq-eqb, ne_eqb}
-use borrow.Author.Rules.{rules}
 use Rattle.answers.proofs.panel_read.Goals as goal
 
 pub returns-then-k-eq212 : goal.returns-then-k-eq212

@@ -2,7 +2,6 @@
 -- Assumes nothing.
 use native.Mathlib.Omega.{arith}
 use Rattle.formats.proofs.Writing.{wrote_more}
-use borrow.Author.Rules.{rules}
 use Rattle.answers.proofs.reply_error.Goals as goal
 
 pub returns : goal.returns

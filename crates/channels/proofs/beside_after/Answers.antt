@@ -4,7 +4,6 @@ use Prim.Native.Nat.{◌+◌}
 use native.Mathlib.Omega.{arith}
 use borrow.Author.Tests.{leb-true}
 use Rattle.channels.proofs.LastRead.{beside_none, beside_some}
-use borrow.Author.Rules.{rules}
 use Rattle.channels.proofs.beside_after.Goals as goal
 
 pub returns-then-told-eq0 : goal.returns-then-told-eq0

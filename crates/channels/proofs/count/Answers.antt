@@ -6,7 +6,6 @@ use Rattle.reader.specs.declared.Layout.TheVariants.{Sixteen}
 use Rattle.reader.proofs.Walking.{refused_answer}
 use Rattle.channels.specs.Walk.{unread, read}
 use Rattle.channels.proofs.Counting.{log_some, reads_of}
-use borrow.Author.Rules.{rules}
 use Rattle.channels.proofs.count.Goals as goal
 
 pub counted-requires : goal.counted-requires

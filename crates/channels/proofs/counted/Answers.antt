@@ -5,7 +5,6 @@ use Rattle.channels.specs.Bringing.{is_total}
 use Rattle.channels.specs.Walk.{stops, lost, goes}
 use Rattle.channels.proofs.Counting.{over_is, under_is}
 use Rattle.channels.proofs.LastRead.{fills, few, unknown_after, joined_all}
-use borrow.Author.Rules.{rules}
 use Rattle.channels.proofs.counted.Goals as goal
 
 pub join_refusal-refusal-requires : goal.join_refusal-refusal-requires

@@ -1,11 +1,9 @@
 -- `channels::forward` meets its contract.
 -- Assumes nothing.
-use Rattle.channels.proofs.Counting.{over_is, under_is}
-use mathlib.Core.Path.{refl, sym, ◌∙◌}
+use mathlib.Core.Path.{sym, ◌∙◌}
 use native.Mathlib.Omega.{arith}
 use Rattle.channels.proofs.Thin.{moved_not, moved_well}
 use Rattle.channels.proofs.ByValue.{totals_are}
-use borrow.Author.Rules.{rules}
 use Rattle.channels.proofs.forward.Goals as goal
 
 pub returns-then-not-in_reach : goal.returns-then-not-in_reach

@@ -4,7 +4,6 @@ use mathlib.Core.Path.{ap, ◌∙◌}
 use mathlib.Core.Bool.{not}
 use Rattle.channels.proofs.Counting.{over_is, under_is, not_not}
 use Rattle.channels.proofs.ByValue.{over_closings, over_openings, by_ticks}
-use borrow.Author.Rules.{rules}
 use Rattle.channels.proofs.in_reach.Goals as goal
 
 pub returns-then-passes_end : goal.returns-then-passes_end

@@ -1,7 +1,6 @@
 -- `channels::read_for` meets its contract.
 -- Assumes nothing.
 use Rattle.channels.proofs.Counting.{other_count, log_refused, log_older, log_new}
-use borrow.Author.Rules.{rules}
 use Rattle.channels.proofs.read_for.Goals as goal
 
 pub returns-then-n-ne32 : goal.returns-then-n-ne32

@@ -24,7 +24,7 @@ use Rattle.controller.specs.declared.Controller.{Controller}
 use Rattle.wire.specs.declared.Wire.{Wire}
 use Rattle.variables.specs.declared.Panel.{Panel}
 use Rattle.controller.specs.Controller.{with_log, Areas, with_run, with_paused, with_ticks, with_wire, with_single, with_parameter, with_special, with_event}
-use Rattle.controller.specs.Deeds.{raise, moved, execute, special}
+use Rattle.controller.specs.Deeds.{raise, moved, execute}
 use Rattle.controller.specs.Refusals.{Call}
 use Rattle.controller.specs.Variables.{line_of}
 use Rattle.controller.proofs.Lines.{single_back}

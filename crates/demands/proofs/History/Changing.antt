@@ -11,7 +11,6 @@ use Rattle.formats.specs.Checks.{Res}
 use Rattle.running.specs.declared.Run.{Run}
 use Rattle.wire.specs.declared.Asked.{Asked}
 use Rattle.boxlog.specs.declared.Change.{Change}
-use Rattle.controller.specs.Refusals.{tick}
 use Rattle.controller.specs.Effects.{finished, is_power_on}
 use Rattle.controller.specs.Invariant.{Invariant}
 use Rattle.controller.specs.Calls.{After, cause}

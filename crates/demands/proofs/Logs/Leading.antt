@@ -24,7 +24,7 @@ use Rattle.controller.specs.Effects.{is_power_on, is_tick}
 use Rattle.controller.specs.Invariant.{Invariant}
 use Rattle.controller.proofs.Invariant.{fresh_invariant}
 use Rattle.controller.proofs.Refusals.{Checked, accepted_call}
-use Rattle.demands.specs.Histories.{Made, Held, unpowered, outcome, is_accepted, next, after}
+use Rattle.demands.specs.Histories.{Made, Held, unpowered, outcome, is_accepted, next}
 use Rattle.demands.specs.Seen.{note, notes}
 use Rattle.demands.specs.Said.{Said, given, is_outputs}
 use Rattle.demands.specs.Told.{Told, powered, said, tell, tell_all, told, afterwards, ticks_then}

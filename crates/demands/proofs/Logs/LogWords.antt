@@ -20,7 +20,7 @@ use Rattle.reader.specs.Produced.{Tells}
 use Rattle.reader.specs.Words.{word_at_end, earliest_word, word_at, is_outside_gap, latest_word}
 use Rattle.reader.proofs.Words.{last_word_lem, word_between, first_before_lem, earliest_told, word_told, latest_told}
 use Rattle.controller.specs.Controller.{Areas}
-use Rattle.demands.specs.Histories.{Made, powering, ticking, emptying_to, unpowered, next, after, HandsOn, AllHandOn, powered_on, since_power_on}
+use Rattle.demands.specs.Histories.{Made, powering, ticking, emptying_to, unpowered, after, HandsOn, AllHandOn, powered_on, since_power_on}
 use Rattle.demands.specs.Seen.{is_taken, seen, emptied_by, outputs, note, notes}
 use Rattle.demands.specs.Told.{Told, said, tell, tell_all, told, afterwards}
 use Rattle.demands.specs.Changes.{none_begins, since, changes}

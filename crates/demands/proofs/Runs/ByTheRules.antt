@@ -31,7 +31,7 @@ use Rattle.demands.specs.ReadBack.{ReadOf}
 use Rattle.demands.specs.Shown.{shown_of}
 use Rattle.demands.specs.Replies.{ended}
 use Rattle.demands.specs.Started.{Course, begun, now, Started, program_of, start_of, count, ruled, Ticks, ticked}
-use Rattle.demands.specs.Undisturbed.{unpaused, is_broken, is_pausing, SameOrNone}
+use Rattle.demands.specs.Undisturbed.{is_broken, is_pausing, SameOrNone}
 use Rattle.demands.proofs.Calls.Answered.{invariant_always}
 use Rattle.demands.proofs.History.Steps.{Step, passes, fails, stepped, program_held}
 use Rattle.demands.proofs.History.Agrees.{Agrees}

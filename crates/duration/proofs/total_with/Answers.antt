@@ -3,7 +3,6 @@
 use Rattle.duration.specs.Total.{adds}
 use mathlib.Core.Path.{ap}
 use Rattle.duration.proofs.Totals.{over_already, nothing_more, now_over, still_told}
-use borrow.Author.Rules.{rules}
 use Rattle.duration.proofs.total_with.Goals as goal
 
 pub returns-then-total-gt-MOST_TOTAL : goal.returns-then-total-gt-MOST_TOTAL

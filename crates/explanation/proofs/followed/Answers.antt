@@ -1,10 +1,9 @@
 -- `explanation::followed` meets its contract: each turn follows the run to the next tick at which a line falls due.
 -- Assumes nothing.
-use Prim.Native.Nat.{◌-◌}
 use mathlib.Core.Path.{refl, ap, ◌∙◌}
 use Rattle.running.proofs.Invariant.{begun_going, still}
 use Rattle.explanation.specs.declared.Answer.TheVariants.{Stopped}
-use Rattle.explanation.proofs.Following.{Followed, at_start, in_program_lem, runs, waits, one_good, at_next, still_running, has_stopped}
+use Rattle.explanation.proofs.Following.{at_start, in_program_lem, runs, waits, one_good, at_next, still_running, has_stopped}
 use borrow.Author.Rules.{rules}
 use native.Mathlib.Omega.{arith}
 use Rattle.explanation.proofs.followed.Goals as goal

@@ -8,7 +8,6 @@ use Rattle.running.proofs.Freeing.{freed_ends}
 use Rattle.running.proofs.Turns.{tick_ends, tick_runs, tick_going}
 use Rattle.running.proofs.Invariant.{goes_on, still}
 use Rattle.explanation.proofs.OtherKinds.{onward_goes, onward_nine}
-use borrow.Author.Rules.{rules}
 use native.Mathlib.Omega.{arith}
 use borrow.Enum.Refused.{opened}
 use Rattle.explanation.proofs.next_due.Goals as goal

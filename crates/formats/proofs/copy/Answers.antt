@@ -1,11 +1,11 @@
 -- `formats::copy` meets its contract. The invariant of its loop: the first i bytes are copied, and the rest of `to` is as it was. The measure is what is left
 -- of n.
 -- Assumes nothing.
-use mathlib.Core.List.{List, ◌++◌}
+use mathlib.Core.List.{List}
 use mathlib.Core.Path.{◌≡◌, refl, ap, ◌∙◌}
-use Prim.Native.Nat.{ℕ, ◌≤◌, ◌-◌}
+use Prim.Native.Nat.{ℕ}
 use native.Mathlib.Omega.{arith}
-use lib.ListN.{length, take, drop, set, get_or, length-set}
+use lib.ListN.{set, get_or, length-set}
 use borrow.Author.Rules.{rules}
 use Rattle.formats.proofs.Parts.{copied_more}
 use Rattle.formats.proofs.copy.Goals as goal

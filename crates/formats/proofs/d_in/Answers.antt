@@ -4,7 +4,6 @@ use borrow.Author.Tests.{eq-eqb, ne_eqb, le-leb, lt-leb}
 use Rattle.formats.specs.Checks.{◌>>=◌, ◌>>◌, ◌or_else◌}
 use Rattle.formats.specs.Digits.{d_in}
 use Rattle.formats.proofs.NumbersRead.{number_told}
-use borrow.Author.Rules.{rules}
 use Rattle.formats.proofs.d_in.Goals as goal
 
 pub returns-then-cs-ne3 : goal.returns-then-cs-ne3

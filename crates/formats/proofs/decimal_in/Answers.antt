@@ -1,10 +1,7 @@
 -- `formats::decimal_in` meets its contract: after i characters the number kept is theirs, or the largest.
 -- Assumes nothing.
-use Prim.Native.Nat.{◌-◌, ◌≤◌}
-use lib.ListN.{length}
-use mathlib.Core.Logic.{◌≢◌}
 use borrow.Author.Rules.{rules}
-use Rattle.formats.proofs.Decimals.{Kept, kept_none, kept_more, kept_bad, none_written, kept_all}
+use Rattle.formats.proofs.Decimals.{kept_none, kept_more, kept_bad, none_written, kept_all}
 use Rattle.formats.proofs.decimal_in.Goals as goal
 
 pub returns-then-cs-eq0 : goal.returns-then-cs-eq0

@@ -3,8 +3,7 @@
 use Prim.Native.Nat.{◌-◌, ◌≤◌}
 use lib.ListN.{length}
 use mathlib.Core.Logic.{◌≢◌}
-use borrow.Author.Rules.{rules}
-use Rattle.formats.proofs.Decimals.{Kept, kept_none, kept_more, kept_bad, none_written, kept_all}
+use Rattle.formats.proofs.Decimals.{Kept}
 use Rattle.formats.proofs.decimal_in.Given as goal
 
 abbrev pub invariant-loop-i : goal.invariant-loop-i

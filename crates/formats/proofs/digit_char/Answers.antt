@@ -1,7 +1,6 @@
 -- `formats::digit_char` meets its contract, by its one test.
 -- Assumes nothing.
 use borrow.Author.Tests.{lt-ltb, le-ltb}
-use borrow.Author.Rules.{rules}
 use Rattle.formats.proofs.digit_char.Goals as goal
 
 pub returns-then-v-lt10 : goal.returns-then-v-lt10

@@ -2,7 +2,6 @@
 -- Assumes nothing.
 use borrow.Author.Tests.{le-leb, lt-leb}
 use native.Mathlib.Omega.{arith}
-use borrow.Author.Rules.{rules}
 use Rattle.formats.proofs.digit_value.Goals as goal
 
 pub returns-then-c-lt48 : goal.returns-then-c-lt48

@@ -2,7 +2,6 @@
 -- Assumes nothing.
 use mathlib.Core.Path.{refl}
 use Rattle.formats.specs.Digits.{digits}
-use borrow.Author.Rules.{rules}
 use Rattle.formats.proofs.four_bytes.Goals as goal
 
 pub returns : goal.returns

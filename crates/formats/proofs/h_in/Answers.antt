@@ -6,7 +6,6 @@ use Prim.Native.Nat.{◌^◌, ◌<◌}
 use native.Mathlib.Nat.{mod-eq_of_lt}
 use Rattle.formats.specs.Digits.{h_in}
 use Rattle.formats.proofs.NumbersRead.{number_told, number_fits}
-use borrow.Author.Rules.{rules}
 use Rattle.formats.proofs.h_in.Goals as goal
 
 pub returns-then-cs-ne2 : goal.returns-then-cs-ne2

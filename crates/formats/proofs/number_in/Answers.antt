@@ -1,12 +1,9 @@
 -- `formats::number_in` meets its contract: after i characters the number read so far is theirs.
 -- Assumes nothing.
-use Prim.Native.Nat.{◌+◌, ◌*◌, ◌-◌, ◌≤◌, ◌<◌}
-use lib.ListN.{length}
+use Prim.Native.Nat.{◌+◌, ◌*◌, ◌<◌}
 use native.Mathlib.Omega.{arith}
 use borrow.Author.Rules.{rules}
-use Rattle.formats.proofs.Loops.{Read, read_none, read_bad, read_more, more_fits_u32, read_all}
-use Rattle.formats.proofs.number_in.Reads as reads
-use Rattle.formats.proofs.digit_value.Reads as digit-value-reads
+use Rattle.formats.proofs.Loops.{read_none, read_bad, read_more, more_fits_u32, read_all}
 use Rattle.formats.proofs.number_in.Goals as goal
 
 -- the number with one digit more fits

@@ -2,7 +2,6 @@
 -- Assumes nothing.
 use native.Mathlib.Omega.{arith}
 use Rattle.formats.specs.Digits.{number_after}
-use borrow.Author.Rules.{rules}
 use Rattle.formats.proofs.number_of_two.Goals as goal
 
 pub returns : goal.returns

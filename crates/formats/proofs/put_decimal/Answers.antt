@@ -5,7 +5,6 @@ use native.Mathlib.Omega.{arith}
 use Rattle.formats.specs.Digits.{shown, width, most_digits}
 use Rattle.formats.proofs.Characters.{length_shown}
 use Rattle.formats.proofs.Writing.{wrote_as}
-use borrow.Author.Rules.{rules}
 use Rattle.formats.proofs.put_decimal.Goals as goal
 
 pub put_digits-requires : goal.put_digits-requires

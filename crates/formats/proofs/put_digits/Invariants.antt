@@ -1,11 +1,9 @@
 -- `formats::put_digits` meets its contract. The invariant of its loop: the digits from number i on stand there, and `rest` has those before. The measure
 -- is how many are left.
 -- Assumes nothing.
-use Rattle.formats.proofs.DigitsWritten.{digit_below, Left, left_all, left_less, left_none}
-use borrow.Author.Rules.{rules}
-use lib.ListN.{length, length-set}
-use native.Mathlib.Omega.{arith}
-use mathlib.Core.Path.{◌≡◌, refl}
+use Rattle.formats.proofs.DigitsWritten.{Left}
+use lib.ListN.{length}
+use mathlib.Core.Path.{◌≡◌}
 use Rattle.formats.proofs.put_digits.Given as goal
 
 abbrev pub invariant-loop-i : goal.invariant-loop-i

@@ -1,6 +1,6 @@
 -- `formats::width` meets its contract. The invariant of its loop: n digits are counted, and `rest` is what stands before them. The measure is `rest`.
 -- Assumes nothing.
-use Rattle.formats.proofs.Decimals.{Counted, counted_none, counted_on, counted_all}
+use Rattle.formats.proofs.Decimals.{counted_none, counted_on, counted_all}
 use native.Mathlib.Omega.{arith}
 use borrow.Author.Rules.{rules}
 use Rattle.formats.proofs.width.Goals as goal

@@ -1,8 +1,6 @@
 -- `formats::width` meets its contract. The invariant of its loop: n digits are counted, and `rest` is what stands before them. The measure is `rest`.
 -- Assumes nothing.
-use Rattle.formats.proofs.Decimals.{Counted, counted_none, counted_on, counted_all}
-use native.Mathlib.Omega.{arith}
-use borrow.Author.Rules.{rules}
+use Rattle.formats.proofs.Decimals.{Counted}
 use Rattle.formats.proofs.width.Given as goal
 
 abbrev pub invariant-loop-rest : goal.invariant-loop-rest

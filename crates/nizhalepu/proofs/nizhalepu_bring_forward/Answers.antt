@@ -4,10 +4,9 @@
 use mathlib.Core.Path.{◌≡◌, refl, sym, ap, ◌∙◌}
 use Prim.Native.Nat.{ℕ, suc, ◌+◌, ◌-◌, ◌<◌, ◌≤◌}
 use native.Mathlib.Omega.{arith}
-use mathlib.Core.Bool.{Bool, true, false}
+use mathlib.Core.Bool.{true, false}
 use lib.ListN.{length, get_or}
 use Rattle.channels.specs.declared.Moved.{Moved}
-use Rattle.channels.specs.declared.Channel.{Channel}
 use Rattle.channels.specs.Totals.{unused, all_from}
 use Rattle.channels.specs.Walk.{fits_of, next_of}
 use borrow.Author.Rules.{rules}

@@ -2,7 +2,6 @@
 -- Assumes nothing.
 use Rattle.duration.specs.Report.{report}
 use Rattle.nizhalepu.proofs.Durations.{takes_so, refused_so}
-use borrow.Author.Rules.{rules}
 use Rattle.nizhalepu.proofs.nizhalepu_duration.Goals as goal
 
 pub returns-in-Takes : goal.returns-in-Takes

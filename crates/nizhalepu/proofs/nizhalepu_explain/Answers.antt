@@ -1,6 +1,5 @@
 -- `nizhalepu::nizhalepu_explain` meets its contract: by the answer.
 -- Assumes nothing.
-use borrow.Author.Rules.{rules}
 use Rattle.explanation.specs.Report.{report}
 use Rattle.nizhalepu.proofs.Stops.{passed_on, stop_passed_on}
 use Rattle.nizhalepu.proofs.nizhalepu_explain.Goals as goal

@@ -1,6 +1,5 @@
 -- `nizhalepu::nizhalepu_plan` meets its contract: by the answer.
 -- Assumes nothing.
-use borrow.Author.Rules.{rules}
 use Rattle.planner.specs.Planned.{planned}
 use Rattle.nizhalepu.proofs.Plans.{written_so, refused_plan}
 use Rattle.nizhalepu.proofs.nizhalepu_plan.Goals as goal

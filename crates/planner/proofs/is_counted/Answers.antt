@@ -1,6 +1,5 @@
 -- `planner::is_counted` meets its contract: each of its tests is one of the code.
 -- Assumes nothing.
-use borrow.Author.Rules.{rules}
 use borrow.Author.Tests.{lt-leb, le-leb, ne_eqb, eq-eqb}
 use Rattle.planner.proofs.is_counted.Goals as goal
 

@@ -1,8 +1,6 @@
 -- `planner::is_timed` meets its contract: the settling first, then the reading.
 -- Assumes nothing.
 use mathlib.Core.Path.{sym, ◌∙◌}
-use borrow.Author.Tests.{not-true, not-false}
-use borrow.Author.Rules.{rules}
 use Rattle.planner.proofs.is_timed.Goals as goal
 
 pub returns-then-not-is_time : goal.returns-then-not-is_time

@@ -1,12 +1,8 @@
 -- `planner::put_ends` meets its contract: the end marks up to line i are laid.
 -- Assumes nothing.
-use Prim.Native.Nat.{◌-◌, ◌≤◌}
 use native.Mathlib.Omega.{arith}
 use mathlib.Core.Path.{◌≡◌, refl, ◌∙◌}
-use lib.ListN.{length, replicate}
 use borrow.Author.Rules.{rules}
-use Rattle.lines.specs.Line.{end_mark}
-use Rattle.planner.specs.Lines.{Lays}
 use Rattle.planner.proofs.Laying.{ends_begin, ends_more}
 use Rattle.planner.proofs.put_ends.Goals as goal
 

@@ -1,7 +1,6 @@
 -- `planner::put_move` meets its contract: the lines of the reading behind those of the settling.
 -- Assumes nothing.
 use native.Mathlib.Omega.{arith}
-use borrow.Author.Rules.{rules}
 use Rattle.planner.specs.Lines.{move_lines}
 use Rattle.planner.proofs.Laying.{lays_more}
 use Rattle.planner.proofs.put_move.Goals as goal

@@ -1,12 +1,10 @@
 -- `planner::put_moves` meets its contract: the lines of the moves before number k are laid.
 -- Assumes nothing.
-use Prim.Native.Nat.{◌*◌, ◌-◌, ◌≤◌}
 use native.Mathlib.Omega.{arith}
-use mathlib.Core.Path.{◌≡◌, refl, sym, subst, ◌∙◌}
-use lib.ListN.{length}
+use mathlib.Core.Path.{refl, sym, subst, ◌∙◌}
 use borrow.Author.Rules.{rules}
 use Rattle.planner.specs.Plan.{Timed}
-use Rattle.planner.proofs.Moves.{counted_is, Planned, plan_begins, move_timed, plan_on, plan_over}
+use Rattle.planner.proofs.Moves.{counted_is, plan_begins, move_timed, plan_on, plan_over}
 use Rattle.planner.proofs.put_moves.Goals as goal
 
 pub loop-k-init : goal.loop-k-init

@@ -1,12 +1,9 @@
 -- `planner::put_moves` meets its contract: the lines of the moves before number k are laid.
 -- Assumes nothing.
 use Prim.Native.Nat.{◌*◌, ◌-◌, ◌≤◌}
-use native.Mathlib.Omega.{arith}
-use mathlib.Core.Path.{◌≡◌, refl, sym, subst, ◌∙◌}
+use mathlib.Core.Path.{◌≡◌}
 use lib.ListN.{length}
-use borrow.Author.Rules.{rules}
-use Rattle.planner.specs.Plan.{Timed}
-use Rattle.planner.proofs.Moves.{counted_is, Planned, plan_begins, move_timed, plan_on, plan_over}
+use Rattle.planner.proofs.Moves.{Planned}
 use Rattle.planner.proofs.put_moves.Given as goal
 
 abbrev pub invariant-loop-k : goal.invariant-loop-k

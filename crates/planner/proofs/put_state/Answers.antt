@@ -1,7 +1,6 @@
 -- `planner::put_state` meets its contract: one line is laid.
 -- Assumes nothing.
 use mathlib.Core.Path.{refl}
-use borrow.Author.Rules.{rules}
 use Rattle.planner.proofs.Laying.{put_lays}
 use Rattle.planner.proofs.put_state.Goals as goal
 

@@ -4,7 +4,6 @@ use Prim.Native.Nat.{◌/◌}
 use native.Mathlib.Omega.{arith}
 use mathlib.Core.Path.{sym, ap, ◌∙◌}
 use mathlib.Core.List.{◌++◌, append-nil}
-use borrow.Author.Rules.{rules}
 use Rattle.planner.specs.Lines.{loop_lines}
 use Rattle.planner.proofs.Laying.{lays_as, lays_more, short_lines, long_lines, no_remainder, some_remainder}
 use Rattle.planner.proofs.put_time.Goals as goal

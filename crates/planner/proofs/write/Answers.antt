@@ -1,8 +1,6 @@
 -- `planner::write` meets its contract: check by check, and the lines one behind the other.
 -- Assumes nothing.
 use mathlib.Core.Path.{sym, ◌∙◌}
-use borrow.Author.Tests.{not-true, not-false}
-use borrow.Author.Rules.{rules}
 use Rattle.planner.proofs.Answers.{no_area, no_count, no_time, all_laid}
 use Rattle.planner.proofs.write.Goals as goal
 

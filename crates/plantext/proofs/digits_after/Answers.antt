@@ -2,7 +2,6 @@
 -- Assumes nothing.
 use borrow.Author.Tests.{eq-eqb, ne_eqb, lt-ltb, le-ltb, le-leb, lt-leb}
 use Rattle.plantext.specs.Reading.{digits_after}
-use borrow.Author.Rules.{rules}
 use Rattle.plantext.proofs.digits_after.Goals as goal
 
 pub returns-then-b-x : goal.returns-then-b-x

@@ -2,7 +2,6 @@
 -- Assumes nothing.
 use borrow.Author.Tests.{lt-ltb, le-ltb}
 use Rattle.plantext.specs.Reading.{field_after}
-use borrow.Author.Rules.{rules}
 use Rattle.plantext.proofs.field_after.Goals as goal
 
 pub returns-then-field-lt4 : goal.returns-then-field-lt4

@@ -2,7 +2,6 @@
 -- Assumes nothing.
 use borrow.Author.Tests.{lt-leb, le-leb}
 use Rattle.plantext.specs.Text.{hex_value}
-use borrow.Author.Rules.{rules}
 use Rattle.plantext.proofs.hex_value.Goals as goal
 
 pub returns-then-c-lt97 : goal.returns-then-c-lt97

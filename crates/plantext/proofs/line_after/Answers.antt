@@ -2,7 +2,6 @@
 -- Assumes nothing.
 use borrow.Author.Tests.{lt-ltb, le-ltb}
 use Rattle.plantext.specs.Reading.{line_after}
-use borrow.Author.Rules.{rules}
 use Rattle.plantext.proofs.line_after.Goals as goal
 
 pub returns-then-n-lt18446744073709551615 : goal.returns-then-n-lt18446744073709551615

@@ -4,7 +4,6 @@ use native.Mathlib.Omega.{arith}
 use Prim.Native.Nat.{ℕ, ◌*◌, ◌≤◌, ◌<◌}
 use native.Mathlib.Nat.{mul-le-mul}
 use Rattle.plantext.specs.Reading.{value_after}
-use borrow.Author.Rules.{rules}
 use Rattle.plantext.proofs.value_after.Goals as goal
 
 -- four bytes times one fit eight

@@ -3,7 +3,6 @@
 use mathlib.Core.Path.{refl, ◌∙◌}
 use Rattle.running.specs.Running.{start}
 use Rattle.running.proofs.Invariant.{begun_going, still}
-use borrow.Author.Rules.{rules}
 use Rattle.running.proofs.start.Goals as goal
 
 pub run_due-requires : goal.run_due-requires

@@ -1,6 +1,5 @@
 -- `in_reach` meets its contract, at each command.
 -- Assumes nothing.
-use borrow.Author.Rules.{rules}
 use Rattle.special.proofs.in_reach.Goals as goal
 
 pub returns-in-StartAt : goal.returns-in-StartAt

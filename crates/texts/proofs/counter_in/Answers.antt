@@ -4,7 +4,6 @@ use borrow.Author.Tests.{le-leb, lt-leb}
 use Rattle.formats.specs.Checks.{◌>>=◌, ◌>>◌, ◌or_else◌}
 use Rattle.formats.proofs.NumbersRead.{number_told}
 use Rattle.texts.specs.Text.{counter_in}
-use borrow.Author.Rules.{rules}
 use Rattle.texts.proofs.counter_in.Goals as goal
 
 pub returns-in_default : goal.returns-in_default

@@ -4,7 +4,6 @@ use borrow.Author.Tests.{eq-eqb, ne_eqb, lt-ltb}
 use Rattle.formats.specs.Checks.{◌>>◌, ◌or_else◌}
 use Rattle.texts.specs.Text.{line_in}
 use Rattle.texts.proofs.LinesRead.{some_length}
-use borrow.Author.Rules.{rules}
 use Rattle.texts.proofs.line_in.Goals as goal
 
 pub returns-then-len-eq0 : goal.returns-then-len-eq0

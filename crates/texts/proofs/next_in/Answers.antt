@@ -4,7 +4,6 @@ use Rattle.formats.specs.Checks.{◌>>=◌, ◌>>◌, ◌or_else◌}
 use Rattle.formats.proofs.NumbersRead.{number_told}
 use Rattle.texts.specs.Text.{next_in}
 use Rattle.texts.proofs.LinesRead.{counter_fits}
-use borrow.Author.Rules.{rules}
 use Rattle.texts.proofs.next_in.Goals as goal
 
 pub returns-in_default : goal.returns-in_default

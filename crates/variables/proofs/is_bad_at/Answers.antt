@@ -2,7 +2,6 @@
 -- Assumes nothing.
 use borrow.Author.Tests.{lt-leb, le-leb}
 use Rattle.variables.specs.Variables.{is_bad_at}
-use borrow.Author.Rules.{rules}
 use Rattle.variables.proofs.is_bad_at.Goals as goal
 
 pub returns-then-k-gt200 : goal.returns-then-k-gt200

@@ -2,7 +2,6 @@
 -- Assumes nothing.
 use borrow.Author.Tests.{eq-eqb, ne_eqb}
 use Rattle.variables.specs.Variables.{line_of}
-use borrow.Author.Rules.{rules}
 use Rattle.variables.proofs.line_of.Goals as goal
 
 pub returns-then-k-eq200 : goal.returns-then-k-eq200

@@ -1,7 +1,6 @@
 -- `variables::output_byte` meets its contract.
 -- Assumes nothing.
 use Rattle.variables.proofs.Bits.{shifted_down}
-use borrow.Author.Rules.{rules}
 use Rattle.variables.proofs.output_byte.Goals as goal
 
 pub returns : goal.returns

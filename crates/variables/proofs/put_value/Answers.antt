@@ -3,7 +3,6 @@
 use borrow.Author.Tests.{ne_eqb, le-leb, lt-leb}
 use Rattle.formats.proofs.Writing.{wrote_as}
 use Rattle.variables.specs.Variables.{value}
-use Rattle.variables.proofs.Addresses.{from_203, from_213}
 use borrow.Author.Rules.{rules}
 use Rattle.variables.proofs.put_value.Goals as goal
 

@@ -1,7 +1,6 @@
 -- `variables::status` meets its contract.
 -- Assumes nothing.
 use Rattle.variables.proofs.Bits.{status_bits_lem}
-use borrow.Author.Rules.{rules}
 use Rattle.variables.proofs.status.Goals as goal
 
 pub returns : goal.returns

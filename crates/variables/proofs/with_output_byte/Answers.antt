@@ -1,7 +1,6 @@
 -- `variables::with_output_byte` meets its contract.
 -- Assumes nothing.
 use Rattle.variables.proofs.Bits.{masked_in}
-use borrow.Author.Rules.{rules}
 use Rattle.variables.proofs.with_output_byte.Goals as goal
 
 pub returns : goal.returns

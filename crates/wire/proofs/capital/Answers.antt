@@ -1,7 +1,6 @@
 -- `wire::capital` meets its contract.
 -- Assumes nothing.
 use borrow.Author.Tests.{le-leb, lt-leb}
-use borrow.Author.Rules.{rules}
 use Rattle.wire.proofs.capital.Goals as goal
 
 pub returns-then-c-lt97 : goal.returns-then-c-lt97

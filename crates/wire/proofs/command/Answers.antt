@@ -1,7 +1,6 @@
 -- `wire::command` meets its contract: the characters kept are what was sent.
 -- Assumes nothing.
 use Rattle.wire.proofs.Ways.{heard_sent}
-use borrow.Author.Rules.{rules}
 use Rattle.wire.proofs.command.Goals as goal
 
 pub returns : goal.returns

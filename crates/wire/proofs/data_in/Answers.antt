@@ -8,7 +8,6 @@ use Rattle.texts.specs.Text.{line_in}
 use Rattle.formats.proofs.NumbersRead.{byte_told}
 use Rattle.texts.proofs.LinesRead.{parsed_told}
 use Rattle.wire.specs.Command.{data_in}
-use borrow.Author.Rules.{rules}
 use Rattle.wire.proofs.data_in.Goals as goal
 
 pub returns-in-Error-h_in : goal.returns-in-Error-h_in

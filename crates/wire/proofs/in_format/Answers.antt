@@ -3,7 +3,6 @@
 use mathlib.Core.Path.{sym, ◌∙◌}
 use borrow.Author.Tests.{eq-eqb, ne_eqb}
 use Rattle.wire.proofs.Ways.{format_read, format_write}
-use borrow.Author.Rules.{rules}
 use Rattle.wire.proofs.in_format.Goals as goal
 
 pub returns-then-overlong : goal.returns-then-overlong

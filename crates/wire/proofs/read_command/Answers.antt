@@ -5,7 +5,6 @@ use Rattle.formats.specs.Checks.{◌>>=◌, ◌>>◌, ◌or_else◌}
 use Rattle.formats.proofs.NumbersRead.{byte_told}
 use Rattle.wire.specs.Command.{address_in, read_command}
 use Rattle.wire.proofs.Addresses.{rest_some, rest_none}
-use borrow.Author.Rules.{rules}
 use Rattle.wire.proofs.read_command.Goals as goal
 
 pub returns-in-Error : goal.returns-in-Error

@@ -8,7 +8,6 @@ use Rattle.special.specs.Special.{special_of}
 use Rattle.special.proofs.NamedBack.{named_told}
 use Rattle.wire.specs.HeardCommand.{given_of}
 use Rattle.wire.proofs.Ways.{no_number, no_code_lem, not_allowed, out_of_reach, is_given}
-use borrow.Author.Rules.{rules}
 use Rattle.wire.proofs.special_in.Goals as goal
 
 pub returns-in-Error : goal.returns-in-Error

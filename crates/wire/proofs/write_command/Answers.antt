@@ -5,7 +5,6 @@ use Rattle.formats.specs.Checks.{◌>>=◌, ◌>>◌, ◌or_else◌}
 use Rattle.formats.proofs.NumbersRead.{byte_told}
 use Rattle.wire.specs.Command.{address_in, rest, data_in, write_command}
 use Rattle.wire.proofs.DataHeard.{given_told, data_behind}
-use borrow.Author.Rules.{rules}
 use Rattle.wire.proofs.write_command.Goals as goal
 
 pub returns-in-Error : goal.returns-in-Error

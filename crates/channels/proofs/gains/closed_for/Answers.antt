@@ -2,7 +2,6 @@
 -- Assumes nothing.
 use mathlib.Core.Path.{sym, ◌∙◌}
 use Rattle.channels.proofs.Switching.{closed_then, open_then}
-use borrow.Author.Rules.{rules}
 use Rattle.channels.proofs.gains.closed_for.Goals as goal
 
 pub returns-then-is_closed : goal.returns-then-is_closed

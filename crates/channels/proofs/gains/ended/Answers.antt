@@ -1,12 +1,11 @@
 -- `channels::gains::ended` meets its contract.
 -- Assumes nothing.
 use mathlib.Core.Path.{ap}
-use Prim.Native.Nat.{◌-◌}
 use native.Mathlib.Omega.{arith}
 use lib.ListN.{get_or}
 use borrow.Author.Rules.{rules}
 use Rattle.channels.specs.Walk.{no_gain}
-use Rattle.channels.proofs.Ending.{Ending, none_ended, one_ended, all_ended}
+use Rattle.channels.proofs.Ending.{none_ended, one_ended, all_ended}
 use Rattle.channels.proofs.gains.ended.Goals as goal
 
 pub loop-i-init : goal.loop-i-init

@@ -1,7 +1,6 @@
 -- `channels::gains::gained` meets its contract.
 -- Assumes nothing.
 use Rattle.channels.proofs.Ending.{stands_within, ended_bring}
-use borrow.Author.Rules.{rules}
 use Rattle.channels.proofs.gains.gained.Goals as goal
 
 pub ended-requires : goal.ended-requires

@@ -2,7 +2,6 @@
 -- Assumes nothing.
 use mathlib.Core.Path.{refl}
 use Rattle.channels.specs.Totals.{is_closed}
-use borrow.Author.Rules.{rules}
 use Rattle.channels.proofs.gains.is_closed.Goals as goal
 
 pub returns : goal.returns

@@ -3,7 +3,6 @@
 use Prim.Native.Nat.{◌-◌, ◌%◌}
 use native.Mathlib.Omega.{arith}
 use Rattle.channels.proofs.Switching.{by_one, low_bit, switched_by}
-use borrow.Author.Rules.{rules}
 use Rattle.channels.proofs.gains.switched.Goals as goal
 
 pub overflow_mul-result : goal.overflow_mul-result

@@ -1,14 +1,13 @@
 -- `channels::gains::walked` meets its contract: the outer loop keeps what the records so far bring, the inner one which bits are still to be gone through.
 -- Assumes nothing.
 use mathlib.Core.Path.{refl, ap, ◌∙◌}
-use Prim.Native.Nat.{◌-◌}
 use native.Mathlib.Omega.{arith}
 use borrow.Author.Rules.{rules}
 use Rattle.reader.specs.declared.Record.{Record}
 use Rattle.reader.specs.declared.Layout.TheVariants.{Sixteen}
 use Rattle.reader.proofs.Sizes.{place_inside}
 use Rattle.channels.specs.Totals.{is_change, word_from, one_if}
-use Rattle.channels.proofs.Walking.{Walks, walk_begins, Bits, bits_begin, bit_there, less_left, bits_go, asks, walk_goes, walk_ends}
+use Rattle.channels.proofs.Walking.{walk_begins, bits_begin, bit_there, less_left, bits_go, asks, walk_goes, walk_ends}
 use Rattle.channels.proofs.gains.walked.Goals as goal
 
 pub loop-k-init : goal.loop-k-init

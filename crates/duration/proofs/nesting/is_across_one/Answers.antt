@@ -2,7 +2,6 @@
 -- Assumes nothing.
 use Rattle.duration.specs.Walk.{is_across_one}
 use mathlib.Core.Path.{sym}
-use borrow.Author.Rules.{rules}
 use Rattle.duration.proofs.nesting.is_across_one.Goals as goal
 
 pub returns-then-is_across : goal.returns-then-is_across

@@ -3,7 +3,6 @@
 use mathlib.Core.Path.{sym}
 use Rattle.duration.specs.Walk.{walked_line}
 use borrow.Author.Tests.{eq-eqb, ne_eqb}
-use borrow.Author.Rules.{rules}
 use Rattle.duration.proofs.nesting.walk_for.Goals as goal
 
 pub returns-then-n : goal.returns-then-n

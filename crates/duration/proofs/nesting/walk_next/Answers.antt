@@ -2,7 +2,6 @@
 -- Assumes nothing.
 use Rattle.duration.specs.Walk.{walked_line}
 use borrow.Author.Tests.{eq-eqb, ne_eqb}
-use borrow.Author.Rules.{rules}
 use Rattle.duration.proofs.nesting.walk_next.Goals as goal
 
 pub returns-then-i-eq0 : goal.returns-then-i-eq0

@@ -1,8 +1,7 @@
 -- `duration::nesting::walked` meets its contract: up to line i every For is met, and no tangle (`Walking`).
 -- Assumes nothing.
-use Rattle.duration.proofs.Walking.{Walking, walk_begins, walk_done, walk_found, walk_on}
+use Rattle.duration.proofs.Walking.{Walking}
 use Prim.Native.Nat.{◌-◌}
-use borrow.Author.Rules.{rules}
 use Rattle.duration.proofs.nesting.walked.Given as goal
 
 abbrev pub invariant-loop-i : goal.invariant-loop-i

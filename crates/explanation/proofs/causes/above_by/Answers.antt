@@ -3,7 +3,6 @@
 use mathlib.Core.Path.{ap, ◌∙◌}
 use Rattle.explanation.specs.declared.Cause.TheVariants.{ForAbove}
 use Rattle.explanation.proofs.AtLine.{above_none, above_is}
-use borrow.Author.Rules.{rules}
 use borrow.Enum.Refused.{opened}
 use Rattle.explanation.proofs.causes.above_by.Goals as goal
 

@@ -6,7 +6,6 @@ use Rattle.lines.proofs.Places.{line_ranged}
 use Rattle.running.specs.declared.Run.{Run}
 use Rattle.explanation.specs.Report.{holder_in, sought_by}
 use Rattle.explanation.proofs.ByEvent.{event_006, event_007, event_008, event_013, event_other}
-use borrow.Author.Rules.{rules}
 use Rattle.explanation.proofs.causes.cause_of.Goals as goal
 
 pub holder_in-requires : goal.holder_in-requires

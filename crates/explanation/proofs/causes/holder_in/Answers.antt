@@ -1,10 +1,7 @@
 -- `explanation::causes::holder_in` meets its contract: by the line.
 -- Assumes nothing.
-use mathlib.Core.Path.{sym, ap}
-use Rattle.explanation.specs.Report.{holder_in}
-use Rattle.explanation.proofs.OtherKinds.{no_holder, for_ranged}
+use Rattle.explanation.proofs.OtherKinds.{for_ranged}
 use borrow.Author.Rules.{rules}
-use borrow.Enum.Refused.{opened}
 use Rattle.explanation.proofs.causes.holder_in.Goals as goal
 
 pub overflow_sub-c : goal.overflow_sub-c

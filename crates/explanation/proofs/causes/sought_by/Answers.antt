@@ -1,6 +1,5 @@
 -- `explanation::causes::sought_by` meets its contract: a line that is no For seeks none.
 -- Assumes nothing.
-use borrow.Author.Rules.{rules}
 use Rattle.explanation.proofs.OtherKinds.{no_sought}
 use mathlib.Core.Path.{sym, ap}
 use Rattle.explanation.specs.Report.{sought_by}

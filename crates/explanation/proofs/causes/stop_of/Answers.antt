@@ -2,7 +2,6 @@
 -- Assumes nothing.
 use Rattle.running.proofs.Freeing.{freed_event, freed_line}
 use Rattle.explanation.specs.Report.{stop_of}
-use borrow.Author.Rules.{rules}
 use Rattle.explanation.proofs.causes.stop_of.Goals as goal
 
 pub returns : goal.returns

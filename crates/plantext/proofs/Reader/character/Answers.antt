@@ -2,7 +2,6 @@
 -- Assumes nothing.
 use borrow.Author.Tests.{eq-eqb, ne_eqb, lt-ltb, le-ltb}
 use Rattle.plantext.specs.Reading.{character}
-use borrow.Author.Rules.{rules}
 use Rattle.plantext.proofs.Reader.character.Goals as goal
 
 pub returns-then-field-gt4 : goal.returns-then-field-gt4

@@ -1,7 +1,6 @@
 -- `plantext::Reader::ended` meets its contract.
 -- Assumes nothing.
 use Rattle.plantext.specs.Reading.{ended}
-use borrow.Author.Rules.{rules}
 use Rattle.plantext.proofs.Reader.ended.Goals as goal
 
 pub returns : goal.returns

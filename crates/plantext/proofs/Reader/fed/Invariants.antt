@@ -1,10 +1,8 @@
 -- `plantext::Reader::fed` meets its contract: what is left to feed from here is what was to feed from the start.
 -- Assumes nothing.
 use Prim.Native.Nat.{◌-◌, ◌≤◌}
-use mathlib.Core.Path.{◌≡◌, refl, ◌∙◌}
+use mathlib.Core.Path.{◌≡◌}
 use lib.ListN.{length, drop}
-use borrow.Author.Rules.{rules}
-use Rattle.plantext.proofs.Feeding.{fed_on, fed_all}
 use Rattle.plantext.specs.Reading.{fed}
 use Rattle.plantext.proofs.Reader.fed.Given as goal
 

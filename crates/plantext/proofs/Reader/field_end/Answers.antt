@@ -2,7 +2,6 @@
 -- Assumes nothing.
 use borrow.Author.Tests.{eq-eqb, ne_eqb}
 use Rattle.plantext.specs.Reading.{field_end}
-use borrow.Author.Rules.{rules}
 use Rattle.plantext.proofs.Reader.field_end.Goals as goal
 
 pub returns-then-self-eq0 : goal.returns-then-self-eq0

@@ -2,7 +2,6 @@
 -- Assumes nothing.
 use borrow.Author.Tests.{eq-eqb, ne_eqb}
 use Rattle.plantext.specs.Reading.{hash}
-use borrow.Author.Rules.{rules}
 use Rattle.plantext.proofs.Reader.hash.Goals as goal
 
 pub returns-then-r-ne0 : goal.returns-then-r-ne0

@@ -2,7 +2,6 @@
 -- Assumes nothing.
 use borrow.Author.Tests.{eq-eqb, ne_eqb}
 use Rattle.plantext.specs.Reading.{letter}
-use borrow.Author.Rules.{rules}
 use Rattle.plantext.proofs.Reader.letter.Goals as goal
 
 pub returns-then-self-ne0 : goal.returns-then-self-ne0

@@ -2,7 +2,6 @@
 -- Assumes nothing.
 use borrow.Author.Tests.{eq-eqb, ne_eqb}
 use Rattle.plantext.specs.Reading.{line_end}
-use borrow.Author.Rules.{rules}
 use Rattle.plantext.proofs.Reader.line_end.Goals as goal
 
 pub returns-then-r-ne0 : goal.returns-then-r-ne0

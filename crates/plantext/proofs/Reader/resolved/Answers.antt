@@ -1,7 +1,6 @@
 -- `plantext::Reader::resolved` meets its contract.
 -- Assumes nothing.
 use Rattle.plantext.specs.Reading.{resolved}
-use borrow.Author.Rules.{rules}
 use Rattle.plantext.proofs.Reader.resolved.Goals as goal
 
 pub returns-then-self : goal.returns-then-self

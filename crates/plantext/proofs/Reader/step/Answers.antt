@@ -2,7 +2,6 @@
 -- Assumes nothing.
 use borrow.Author.Tests.{eq-eqb, ne_eqb}
 use Rattle.plantext.specs.Reading.{byte_after, step}
-use borrow.Author.Rules.{rules}
 use Rattle.plantext.proofs.Reader.step.Goals as goal
 
 pub returns-then-x-eq10 : goal.returns-then-x-eq10

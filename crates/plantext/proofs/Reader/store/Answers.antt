@@ -2,7 +2,6 @@
 -- Assumes nothing.
 use borrow.Author.Tests.{lt-ltb, le-ltb}
 use Rattle.plantext.specs.Reading.{moves_after, stored_after}
-use borrow.Author.Rules.{rules}
 use Rattle.plantext.proofs.Reader.store.Goals as goal
 
 pub returns-then-at-lt-ROOM : goal.returns-then-at-lt-ROOM

@@ -1,6 +1,5 @@
 -- `running::Run::begun` meets its contract: the struct is the record that a start begins with.
 -- Assumes nothing.
-use borrow.Author.Rules.{rules}
 use Rattle.running.proofs.Run.begun.Goals as goal
 
 pub returns : goal.returns

@@ -1,7 +1,6 @@
 -- `running::Run::last_due` meets its contract: by the kind of line, and by what a State line led to.
 -- Assumes nothing.
 use mathlib.Core.Path.{◌∙◌}
-use borrow.Author.Rules.{rules}
 use Rattle.running.proofs.Turns.{last_bad, last_stops, last_holds, last_ends, last_goes_on}
 use borrow.Enum.Refused.{opened}
 use Rattle.running.proofs.Run.last_due.Goals as goal

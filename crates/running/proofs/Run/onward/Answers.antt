@@ -1,7 +1,6 @@
 -- `running::Run::onward` meets its contract: by the test of the line.
 -- Assumes nothing.
 use borrow.Author.Tests.{lt-ltb, le-ltb}
-use borrow.Author.Rules.{rules}
 use Rattle.running.specs.Running.{onward}
 use Rattle.running.proofs.Run.onward.Goals as goal
 

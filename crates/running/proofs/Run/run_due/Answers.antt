@@ -1,14 +1,11 @@
 -- `running::Run::run_due` meets its contract: the loop keeps what is left to run equal to what was to run; each turn counts one line, and
 -- by both ways out what is left is what the last line leads to.
 -- Assumes nothing.
-use Prim.Native.Nat.{◌-◌, ◌≤◌}
-use mathlib.Core.Path.{◌≡◌, refl, sym, ◌∙◌}
-use mathlib.Core.Logic.{⊎_elim}
+use mathlib.Core.Path.{refl, sym, ◌∙◌}
 use native.Mathlib.Omega.{arith}
 use borrow.Author.Rules.{rules}
 use Rattle.running.proofs.Turns.{line_named, due_ends, due_goes_on, due_going, all_counted, none_left}
-use Rattle.running.proofs.Invariant.{Going, goes_on, still}
-use Rattle.running.specs.Running.{run_due}
+use Rattle.running.proofs.Invariant.{goes_on, still}
 use borrow.Enum.Refused.{opened}
 use Rattle.running.proofs.Run.run_due.Goals.{else-loop-n-test, then-loop-n-test+then-counter-eq0}
 use Rattle.running.proofs.Run.run_due.Goals as goal

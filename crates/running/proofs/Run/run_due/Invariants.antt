@@ -2,14 +2,9 @@
 -- by both ways out what is left is what the last line leads to.
 -- Assumes nothing.
 use Prim.Native.Nat.{◌-◌, ◌≤◌}
-use mathlib.Core.Path.{◌≡◌, refl, sym, ◌∙◌}
-use mathlib.Core.Logic.{⊎_elim}
-use native.Mathlib.Omega.{arith}
-use borrow.Author.Rules.{rules}
-use Rattle.running.proofs.Turns.{line_named, due_ends, due_goes_on, due_going, all_counted, none_left}
-use Rattle.running.proofs.Invariant.{Going, goes_on, still}
+use mathlib.Core.Path.{◌≡◌}
+use Rattle.running.proofs.Invariant.{Going}
 use Rattle.running.specs.Running.{run_due}
-use borrow.Enum.Refused.{opened}
 use Rattle.running.proofs.Run.run_due.Given as goal
 
 abbrev pub invariant-loop-n : goal.invariant-loop-n

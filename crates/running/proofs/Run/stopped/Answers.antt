@@ -1,7 +1,6 @@
 -- `running::Run::stopped` meets its contract: the struct is the definition's record.
 -- Assumes nothing.
 use Rattle.running.specs.Running.{stopped}
-use borrow.Author.Rules.{rules}
 use Rattle.running.proofs.Run.stopped.Goals as goal
 
 pub returns : goal.returns

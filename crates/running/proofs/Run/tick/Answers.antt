@@ -1,8 +1,7 @@
 -- `running::Run::tick` meets its contract: by the tests, and by what going on led to.
 -- Assumes nothing.
 use mathlib.Core.Path.{◌∙◌}
-use borrow.Author.Tests.{not-false, lt-ltb}
-use borrow.Author.Rules.{rules}
+use borrow.Author.Tests.{lt-ltb}
 use Rattle.running.proofs.Turns.{tick_holds, tick_ends, tick_runs, tick_going}
 use Rattle.running.proofs.Invariant.{goes_on, still}
 use Rattle.running.specs.Running.{tick}

@@ -3,7 +3,6 @@
 use mathlib.Core.Path.{sym, ap}
 use Rattle.lines.specs.Line.{count_of}
 use Rattle.running.proofs.Knowing.{no_count}
-use borrow.Author.Rules.{rules}
 use borrow.Enum.Refused.{opened}
 use Rattle.running.proofs.known.count_of.Goals as goal
 

@@ -1,15 +1,11 @@
 -- `running::known::due` meets its contract: as the box runs lines, by what is known of them; the last moment from here is that from the start.
 -- Assumes nothing.
-use Prim.Native.Nat.{◌-◌, ◌≤◌}
-use mathlib.Core.Path.{◌≡◌, refl, sym, ap, ◌∙◌}
-use mathlib.Core.Logic.{⊎_elim}
+use mathlib.Core.Path.{refl, sym, ap, ◌∙◌}
 use Rattle.running.specs.declared.Ran.{Ran}
-use Rattle.running.specs.Running.{run_due}
-use Rattle.running.specs.Moments.{last_due}
 use Rattle.running.specs.Due.{freed}
 use Rattle.running.proofs.Turns.{due_left, due_goes_on, due_going, last_busy, last_further, all_counted, none_left}
 use Rattle.running.proofs.Freeing.{due_freed, last_never}
-use Rattle.running.proofs.Invariant.{Going, goes_on, still}
+use Rattle.running.proofs.Invariant.{goes_on, still}
 use Rattle.running.proofs.Knowing.{named_at, known_at, most_at}
 use borrow.Author.Rules.{rules}
 use native.Mathlib.Omega.{arith}

@@ -1,9 +1,7 @@
 -- `running::known::known_of` meets its contract: line by line.
 -- Assumes nothing.
-use Prim.Native.Nat.{◌-◌, ◌≤◌}
-use mathlib.Core.Path.{◌≡◌, refl}
-use lib.ListN.{length, length-set}
-use Rattle.running.specs.Known.{Below}
+use mathlib.Core.Path.{refl}
+use lib.ListN.{length-set}
 use Rattle.running.proofs.Knowing.{none_yet, one_more, all_known}
 use borrow.Author.Rules.{rules}
 use Rattle.running.proofs.known.known_of.Goals as goal

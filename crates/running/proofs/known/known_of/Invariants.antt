@@ -1,11 +1,9 @@
 -- `running::known::known_of` meets its contract: line by line.
 -- Assumes nothing.
 use Prim.Native.Nat.{◌-◌, ◌≤◌}
-use mathlib.Core.Path.{◌≡◌, refl}
-use lib.ListN.{length, length-set}
+use mathlib.Core.Path.{◌≡◌}
+use lib.ListN.{length}
 use Rattle.running.specs.Known.{Below}
-use Rattle.running.proofs.Knowing.{none_yet, one_more, all_known}
-use borrow.Author.Rules.{rules}
 use Rattle.running.proofs.known.known_of.Given as goal
 
 abbrev pub invariant-loop-i : goal.invariant-loop-i

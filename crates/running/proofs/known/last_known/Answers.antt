@@ -1,7 +1,6 @@
 -- `running::known::last_known` meets its contract: a line that names a counter is one too many; any other ends the call.
 -- Assumes nothing.
 use mathlib.Core.Path.{◌∙◌}
-use borrow.Author.Rules.{rules}
 use native.Mathlib.Omega.{arith}
 use Rattle.running.proofs.Knowing.{last_over, last_other}
 use Rattle.running.proofs.known.last_known.Goals as goal

@@ -3,7 +3,6 @@
 use mathlib.Core.Path.{sym, ap, ◌∙◌}
 use Rattle.lines.specs.Loops.{next_for}
 use Rattle.running.proofs.Knowing.{no_next}
-use borrow.Author.Rules.{rules}
 use borrow.Enum.Refused.{opened}
 use Rattle.running.proofs.known.next_of.Goals as goal
 

@@ -2,7 +2,6 @@
 -- Assumes nothing.
 use mathlib.Core.Path.{◌∙◌}
 use borrow.Author.Tests.{eq-eqb, ne_eqb, lt-ltb, le-ltb}
-use borrow.Author.Rules.{rules}
 use Rattle.running.specs.Running.{run_line}
 use Rattle.running.proofs.Turns.{unchanged, stays}
 use Rattle.running.proofs.loops.for_turn.Goals as goal

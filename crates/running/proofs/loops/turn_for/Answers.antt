@@ -1,7 +1,6 @@
 -- `running::loops::turn_for` meets its contract: by the Next that was found.
 -- Assumes nothing.
 use mathlib.Core.Path.{sym}
-use borrow.Author.Rules.{rules}
 use Rattle.running.proofs.loops.turn_for.Goals as goal
 
 pub returns : goal.returns

@@ -1,7 +1,6 @@
 -- `running::loops::turn_known` meets its contract: by the Next.
 -- Assumes nothing.
 use Rattle.running.proofs.Knowing.{next_leads, for_leads}
-use borrow.Author.Rules.{rules}
 use Rattle.running.proofs.loops.turn_known.Goals as goal
 
 pub returns-then-next-eq0 : goal.returns-then-next-eq0

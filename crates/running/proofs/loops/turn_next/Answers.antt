@@ -2,7 +2,6 @@
 -- Assumes nothing.
 use mathlib.Core.Path.{◌∙◌}
 use borrow.Author.Tests.{ne_eqb, lt-ltb, le-ltb}
-use borrow.Author.Rules.{rules}
 use Rattle.running.specs.Running.{run_line}
 use Rattle.running.proofs.Turns.{stays}
 use Rattle.running.proofs.loops.turn_next.Goals as goal

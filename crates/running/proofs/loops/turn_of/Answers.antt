@@ -1,6 +1,5 @@
 -- `running::loops::turn_of` meets its contract: by the kind of line.
 -- Assumes nothing.
-use borrow.Author.Rules.{rules}
 use Rattle.running.proofs.Turns.{other_next}
 use borrow.Enum.Refused.{opened}
 use Rattle.running.proofs.loops.turn_of.Goals as goal

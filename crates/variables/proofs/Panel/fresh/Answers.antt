@@ -1,6 +1,5 @@
 -- `variables::Panel::fresh` meets its contract: the struct is the definition's record.
 -- Assumes nothing.
-use borrow.Author.Rules.{rules}
 use Rattle.variables.proofs.Panel.fresh.Goals as goal
 
 pub returns : goal.returns

@@ -1,6 +1,5 @@
 -- `variables::Panel::with_single` meets its contract.
 -- Assumes nothing.
-use borrow.Author.Rules.{rules}
 use Rattle.variables.proofs.Panel.with_single.Goals as goal
 
 pub returns : goal.returns

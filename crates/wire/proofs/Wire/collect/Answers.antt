@@ -2,7 +2,6 @@
 -- Assumes nothing.
 use borrow.Author.Tests.{eq-eqb, ne_eqb, lt-ltb, le-ltb}
 use Rattle.wire.specs.Collecting.{collect}
-use borrow.Author.Rules.{rules}
 use Rattle.wire.proofs.Wire.collect.Goals as goal
 
 pub returns-then-x-eq32 : goal.returns-then-x-eq32

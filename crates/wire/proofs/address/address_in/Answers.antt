@@ -4,8 +4,6 @@ use borrow.Author.Tests.{eq-eqb, ne_eqb, le-leb, lt-leb}
 use Rattle.formats.specs.Checks.{◌>>=◌, ◌>>◌, ◌or_else◌}
 use Rattle.formats.proofs.NumbersRead.{number_told}
 use Rattle.wire.specs.Command.{address_in}
-use Rattle.wire.proofs.Addresses.{five_long}
-use borrow.Author.Rules.{rules}
 use Rattle.wire.proofs.address.address_in.Goals as goal
 
 pub returns-then-next-gt216 : goal.returns-then-next-gt216

@@ -1,7 +1,6 @@
 -- `wire::address::has_address` meets its contract.
 -- Assumes nothing.
 use mathlib.Core.Path.{sym, ◌∙◌}
-use borrow.Author.Rules.{rules}
 use Rattle.wire.proofs.address.has_address.Goals as goal
 
 pub returns-then-is_stepwise : goal.returns-then-is_stepwise

@@ -2,7 +2,6 @@
 -- Assumes nothing.
 use mathlib.Core.Path.{sym, ◌∙◌}
 use Rattle.wire.proofs.Quiet.{always_open}
-use borrow.Author.Rules.{rules}
 use Rattle.wire.proofs.address.is_open.Goals as goal
 
 pub returns-then-is_always_open : goal.returns-then-is_always_open

@@ -1,7 +1,6 @@
 -- `wire::address::is_stepwise` meets its contract.
 -- Assumes nothing.
 use borrow.Author.Tests.{eq-eqb, ne_eqb}
-use borrow.Author.Rules.{rules}
 use Rattle.wire.proofs.address.is_stepwise.Goals as goal
 
 pub returns-then-third-eq73 : goal.returns-then-third-eq73

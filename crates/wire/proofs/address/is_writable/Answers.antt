@@ -1,6 +1,5 @@
 -- `wire::address::is_writable` meets its contract, by tests from below.
 -- Assumes nothing.
-use borrow.Author.Rules.{rules}
 use borrow.Author.Tests.{ne_eqb, le-leb, lt-leb}
 use native.Mathlib.Omega.{arith}
 use Rattle.wire.proofs.address.is_writable.Goals as goal

@@ -1,7 +1,6 @@
 -- `duration::sums::Sum::joined` meets its contract: field by field.
 -- Assumes nothing.
 use Rattle.duration.specs.Summing.{joined}
-use borrow.Author.Rules.{rules}
 use Rattle.duration.proofs.sums.Sum.joined.Goals as goal
 
 pub returns : goal.returns

@@ -1,7 +1,6 @@
 -- `duration::sums::Sum::repeated` meets its contract, branch by branch.
 -- Assumes nothing.
 use Rattle.duration.proofs.Summing.{none_repeated, idle_repeated, some_repeated, product_fits}
-use borrow.Author.Rules.{rules}
 use Rattle.duration.proofs.sums.Sum.repeated.Goals as goal
 
 pub returns-then-count-eq0 : goal.returns-then-count-eq0

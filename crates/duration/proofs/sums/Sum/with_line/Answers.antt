@@ -2,7 +2,6 @@
 -- Assumes nothing.
 use Rattle.duration.proofs.OtherKinds.{adds_none}
 use Rattle.duration.proofs.Summing.{with_state, with_bad, with_other}
-use borrow.Author.Rules.{rules}
 use borrow.Enum.Refused.{opened}
 use Rattle.duration.proofs.sums.Sum.with_line.Goals as goal
 

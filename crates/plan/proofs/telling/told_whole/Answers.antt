@@ -1,0 +1,15 @@
+-- `plan::telling::told_whole` meets its contract: nothing waits, so that all of it fits.
+-- Assumes nothing.
+use mathlib.Core.Path.{ap, ◌∙◌}
+use lib.ListN.{take}
+use Rattle.plan.proofs.Fits.{told_whole}
+use borrow.Author.Rules.{rules}
+use Rattle.plan.proofs.telling.told_whole.Goals as goal
+
+pub returns : goal.returns
+returns c =
+    let whole = told_whole _ _ c.requires (ap (λ n. take n c.args.block.now) c.new.ensures.empty.0) c.put_told.ensures.follows in
+    record {
+      «open» = whole.1 ∙ c.new.ensures.empty.1;
+      whole = whole.0;
+    }
