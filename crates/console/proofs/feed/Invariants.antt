@@ -1,13 +1,10 @@
 -- `console::feed` meets its contract. The invariant of its loop: the bytes so far have done what they do. The measure is how many are left.
 -- Assumes nothing.
-use mathlib.Core.Path.{◌≡◌, refl}
+use mathlib.Core.Path.{◌≡◌}
 use Prim.Native.Nat.{◌≤◌, ◌-◌}
-use native.Mathlib.Omega.{arith}
 use lib.ListN.{length, take}
 use Rattle.controller.specs.Invariant.{Invariant}
 use Rattle.console.specs.Inputs.{holding, calls_of, Does}
-use Rattle.console.proofs.Inputs.{does_nothing, one_more, ends_there, all_fed}
-use borrow.Author.Rules.{rules}
 use Rattle.console.proofs.feed.Given as goal
 
 abbrev pub invariant-loop-i : goal.invariant-loop-i

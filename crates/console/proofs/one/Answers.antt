@@ -5,7 +5,6 @@ use Rattle.controller.specs.Refusals as Calls
 use Rattle.controller.specs.Controller.{areas}
 use Rattle.calls.proofs.Kept.{call_kept}
 use Rattle.console.proofs.Inputs.{tick_takes, press_takes, rest_goes}
-use borrow.Author.Rules.{rules}
 use Rattle.console.proofs.one.Goals as goal
 
 pub returns-then-x-eq1 : goal.returns-then-x-eq1

@@ -4,7 +4,6 @@ use Rattle.controller.specs.Refusals as Calls
 use Rattle.controller.specs.Controller.{areas}
 use Rattle.calls.proofs.Kept.{call_kept}
 use Rattle.console.proofs.Inputs.{byte_does}
-use borrow.Author.Rules.{rules}
 use Rattle.console.proofs.sent.Goals as goal
 
 pub returns : goal.returns

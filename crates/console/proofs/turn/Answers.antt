@@ -3,7 +3,6 @@
 use mathlib.Core.Path.{refl}
 use Rattle.console.specs.Inputs.{holding}
 use Rattle.console.proofs.Inputs.{nothing_came, some_came}
-use borrow.Author.Rules.{rules}
 use Rattle.console.proofs.turn.Goals as goal
 
 pub returns-then-not-empty : goal.returns-then-not-empty

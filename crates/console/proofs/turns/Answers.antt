@@ -1,12 +1,8 @@
 -- `console::turns` meets its contract. The invariant of its loop: some bytes have come since the beginning. The measure is the number of turns left.
 -- Assumes nothing.
-use mathlib.Core.Path.{◌≡◌, refl}
-use Prim.Native.Nat.{◌-◌, ◌≤◌}
+use mathlib.Core.Path.{refl}
 use native.Mathlib.Omega.{arith}
-use lib.ListN.{length}
-use Rattle.controller.specs.Invariant.{Invariant}
-use Rattle.console.specs.Inputs.{holding}
-use Rattle.console.proofs.Inputs.{Turned, none_turned, turn_more, turn_ends, turns_end, begins_kept, is_on, is_off}
+use Rattle.console.proofs.Inputs.{none_turned, turn_more, turn_ends, begins_kept, is_on, is_off}
 use borrow.Author.Rules.{rules}
 use Rattle.console.proofs.turns.Goals as goal
 

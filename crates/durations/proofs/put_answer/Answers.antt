@@ -1,6 +1,5 @@
 -- `durations::put_answer` meets its contract: by the answer.
 -- Assumes nothing.
-use borrow.Author.Rules.{rules}
 use Rattle.durations.proofs.put_answer.Goals as goal
 
 pub returns-in-Takes : goal.returns-in-Takes

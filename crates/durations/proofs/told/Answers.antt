@@ -1,6 +1,5 @@
 -- `durations::told` meets its contract: the report is put as a line, and added.
 -- Assumes nothing.
-use borrow.Author.Rules.{rules}
 use Rattle.durations.proofs.told.Goals as goal
 
 pub returns : goal.returns

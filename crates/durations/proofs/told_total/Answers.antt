@@ -4,7 +4,6 @@ use mathlib.Core.Path.{ap, ◌∙◌}
 use Rattle.duration.specs.Report.{answer_of}
 use Rattle.duration.specs.Total.{told_total, grand_total}
 use Rattle.duration.proofs.Totals.{total_told}
-use borrow.Author.Rules.{rules}
 use Rattle.durations.proofs.told_total.Goals as goal
 
 pub returns : goal.returns

@@ -3,7 +3,6 @@
 use mathlib.Core.Path.{refl}
 use native.Mathlib.Omega.{arith}
 use Rattle.durations.proofs.Going.{turn_tells, turn_ends}
-use borrow.Author.Rules.{rules}
 use Rattle.durations.proofs.turn.Goals as goal
 
 pub returns-then-n-eq0 : goal.returns-then-n-eq0

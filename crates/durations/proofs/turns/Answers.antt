@@ -1,11 +1,10 @@
 -- `durations::turns` meets its contract, and ends: the measure is the number of turns left.
 -- Assumes nothing.
 use mathlib.Core.Path.{◌≡◌, refl}
-use Prim.Native.Nat.{◌+◌, ◌-◌, ◌≤◌}
+use Prim.Native.Nat.{◌+◌, ◌-◌}
 use native.Mathlib.Omega.{arith}
-use lib.ListN.{length}
 use borrow.Author.Tests.{not-true, not-false}
-use Rattle.durations.proofs.Going.{Going, going_as, going_none, going_on, going_ends, going_over}
+use Rattle.durations.proofs.Going.{going_as, going_none, going_on, going_ends, going_over}
 use borrow.Author.Rules.{rules}
 use Rattle.durations.proofs.turns.Goals as goal
 

@@ -1,12 +1,9 @@
 -- `durations::turns` meets its contract, and ends: the measure is the number of turns left.
 -- Assumes nothing.
-use mathlib.Core.Path.{◌≡◌, refl}
-use Prim.Native.Nat.{◌+◌, ◌-◌, ◌≤◌}
-use native.Mathlib.Omega.{arith}
+use mathlib.Core.Path.{◌≡◌}
+use Prim.Native.Nat.{◌-◌, ◌≤◌}
 use lib.ListN.{length}
-use borrow.Author.Tests.{not-true, not-false}
-use Rattle.durations.proofs.Going.{Going, going_as, going_none, going_on, going_ends, going_over}
-use borrow.Author.Rules.{rules}
+use Rattle.durations.proofs.Going.{Going}
 use Rattle.durations.proofs.turns.Given as goal
 
 abbrev pub invariant-loop-left : goal.invariant-loop-left

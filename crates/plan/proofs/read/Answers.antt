@@ -1,7 +1,6 @@
 -- `plan::read` meets its contract: the reader of all turns is ended.
 -- Assumes nothing.
 use Rattle.plan.proofs.Feeding.{read_over}
-use borrow.Author.Rules.{rules}
 use Rattle.plan.proofs.read.Goals as goal
 
 pub returns : goal.returns

@@ -1,7 +1,6 @@
 -- `plan::turn` meets its contract: what a read gave is fed, and nothing is the end.
 -- Assumes nothing.
 use Rattle.plan.proofs.Feeding.{read_none}
-use borrow.Author.Rules.{rules}
 use Rattle.plan.proofs.turn.Goals as goal
 
 pub returns-then-n-eq0 : goal.returns-then-n-eq0

@@ -1,9 +1,6 @@
 -- `plan::turns` meets its contract: what was read so far is some bytes. The measure is the number of turns left.
 -- Assumes nothing.
-use Rattle.plantext.specs.Reading.{begin}
-use Rattle.plan.specs.Reading.{ReadOn}
 use Rattle.plan.proofs.Feeding.{read_begins, read_more}
-use borrow.Author.Rules.{rules}
 use Rattle.plan.proofs.turns.Goals as goal
 
 pub loop-left-init : goal.loop-left-init

@@ -2,8 +2,6 @@
 -- Assumes nothing.
 use Rattle.plantext.specs.Reading.{begin}
 use Rattle.plan.specs.Reading.{ReadOn}
-use Rattle.plan.proofs.Feeding.{read_begins, read_more}
-use borrow.Author.Rules.{rules}
 use Rattle.plan.proofs.turns.Given as goal
 
 abbrev pub invariant-loop-left : goal.invariant-loop-left

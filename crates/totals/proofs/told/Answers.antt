@@ -2,7 +2,6 @@
 -- Assumes nothing.
 use Rattle.totals.proofs.Chains.{told_taken, told_refused}
 use mathlib.Core.Path.{◌∙◌}
-use borrow.Author.Rules.{rules}
 use Rattle.totals.proofs.told.Goals as goal
 
 pub returns-then-n-ne0 : goal.returns-then-n-ne0

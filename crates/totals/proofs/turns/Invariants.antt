@@ -1,13 +1,9 @@
 -- `totals::turns` meets its contract: the logs of the arguments below number i are brought forward. The measure is the number of arguments left.
 -- Assumes nothing.
-use borrow.Author.Tests.{eqb-true, eqb-false, not-true, not-false}
 use Prim.Native.Nat.{◌-◌, ◌≤◌}
-use native.Mathlib.Omega.{arith}
-use mathlib.Core.Path.{◌≡◌, refl}
-use mathlib.Core.Logic.{⊎_elim}
+use mathlib.Core.Path.{◌≡◌}
 use lib.ListN.{length}
-use Rattle.totals.proofs.Chains.{Going, going_none, going_on, going_fails, going_refused, going_over}
-use borrow.Author.Rules.{rules}
+use Rattle.totals.proofs.Chains.{Going}
 use Rattle.totals.proofs.turns.Given as goal
 
 abbrev pub invariant-loop-i : goal.invariant-loop-i

@@ -4,7 +4,6 @@ use mathlib.Core.List.{[]}
 use Rattle.controller.specs.Refusals as Calls
 use Rattle.controller.specs.Controller.{areas}
 use Rattle.calls.proofs.Kept.{call_kept, power_on_gives}
-use borrow.Author.Rules.{rules}
 use Rattle.trials.proofs.tried.Goals as goal
 
 pub returns-then-op-eq111 : goal.returns-then-op-eq111

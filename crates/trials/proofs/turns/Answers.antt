@@ -1,11 +1,7 @@
 -- `trials::turns` is safe and ends; the measure is the number of turns left.
 -- Assumes nothing.
-use mathlib.Core.Path.{◌≡◌, refl, sym, ◌∙◌}
+use mathlib.Core.Path.{refl, sym, ◌∙◌}
 use native.Mathlib.Omega.{arith}
-use lib.ListN.{length}
-use Rattle.controller.specs.Invariant.{Invariant}
-use Rattle.trials.specs.Fits.{Fits, Buffers}
-use borrow.Author.Rules.{rules}
 use Rattle.trials.proofs.turns.Goals as goal
 
 pub loop-left-init : goal.loop-left-init

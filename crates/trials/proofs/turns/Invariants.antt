@@ -1,11 +1,9 @@
 -- `trials::turns` is safe and ends; the measure is the number of turns left.
 -- Assumes nothing.
-use mathlib.Core.Path.{◌≡◌, refl, sym, ◌∙◌}
-use native.Mathlib.Omega.{arith}
+use mathlib.Core.Path.{◌≡◌}
 use lib.ListN.{length}
 use Rattle.controller.specs.Invariant.{Invariant}
 use Rattle.trials.specs.Fits.{Fits, Buffers}
-use borrow.Author.Rules.{rules}
 use Rattle.trials.proofs.turns.Given as goal
 
 abbrev pub invariant-loop-left : goal.invariant-loop-left

@@ -3,7 +3,6 @@
 use Rattle.formats.specs.Checks.{text}
 use borrow.Author.Tests.{lt-ltb, le-ltb}
 use Rattle.explain.specs.Telling.{busy_advice}
-use borrow.Author.Rules.{rules}
 use Rattle.explain.proofs.telling.put_busy_advice.Goals as goal
 
 pub returns-then-k-line : goal.returns-then-k-line

@@ -1,7 +1,6 @@
 -- `explain::telling::put_cause` meets its contract: by the cause.
 -- Assumes nothing.
 use Rattle.formats.specs.Checks.{text}
-use borrow.Author.Rules.{rules}
 use Rattle.explain.proofs.telling.put_cause.Goals as goal
 
 pub returns-then-yes : goal.returns-then-yes

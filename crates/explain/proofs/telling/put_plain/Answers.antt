@@ -3,7 +3,6 @@
 use Rattle.formats.specs.Checks.{text}
 use borrow.Author.Tests.{eq-eqb, ne_eqb}
 use Rattle.explain.specs.Telling.{plain_reason}
-use borrow.Author.Rules.{rules}
 use Rattle.explain.proofs.telling.put_plain.Goals as goal
 
 pub returns-then-event-eq9 : goal.returns-then-event-eq9

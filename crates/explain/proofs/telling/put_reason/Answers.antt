@@ -1,7 +1,6 @@
 -- `explain::telling::put_reason` meets its contract: by the cause.
 -- Assumes nothing.
 use Rattle.explain.specs.Telling.{reason}
-use borrow.Author.Rules.{rules}
 use Rattle.explain.proofs.telling.put_reason.Goals as goal
 
 pub returns-in-ForLine : goal.returns-in-ForLine

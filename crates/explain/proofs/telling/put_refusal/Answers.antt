@@ -3,7 +3,6 @@
 use Rattle.formats.specs.Checks.{text}
 use borrow.Author.Tests.{eq-eqb, ne_eqb}
 use Rattle.explain.specs.Telling.{refusal_sentence}
-use borrow.Author.Rules.{rules}
 use Rattle.explain.proofs.telling.put_refusal.Goals as goal
 
 pub returns-then-e-eq30 : goal.returns-then-e-eq30

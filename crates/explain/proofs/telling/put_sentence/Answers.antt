@@ -1,6 +1,5 @@
 -- `explain::telling::put_sentence` meets its contract: by the answer; the line is one of the program.
 -- Assumes nothing.
-use borrow.Author.Rules.{rules}
 use native.Mathlib.Omega.{arith}
 use Rattle.explain.proofs.telling.put_sentence.Goals as goal
 

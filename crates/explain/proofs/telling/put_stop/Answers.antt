@@ -3,7 +3,6 @@
 use Rattle.formats.specs.Checks.{text}
 use Rattle.explain.specs.Telling.{stop_sentence}
 use Rattle.streams.proofs.Following.{follows_more}
-use borrow.Author.Rules.{rules}
 use Rattle.explain.proofs.telling.put_stop.Goals as goal
 
 pub returns : goal.returns

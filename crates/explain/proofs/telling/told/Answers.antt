@@ -3,7 +3,6 @@
 use Rattle.explain.specs.Telling.{two_lines}
 use Rattle.streams.proofs.Following.{follows_more}
 use Rattle.explain.proofs.Reading.{readable}
-use borrow.Author.Rules.{rules}
 use Rattle.explain.proofs.telling.told.Goals as goal
 
 pub put_sentence-second-requires : goal.put_sentence-second-requires

@@ -3,7 +3,6 @@
 use Rattle.formats.specs.Checks.{text}
 use Rattle.plan.specs.Telling.{clock}
 use Rattle.streams.proofs.Following.{follows_more}
-use borrow.Author.Rules.{rules}
 use Rattle.plan.proofs.telling.put_clock.Goals as goal
 
 pub returns : goal.returns

@@ -3,7 +3,6 @@
 use Rattle.formats.specs.Checks.{text}
 use borrow.Author.Tests.{eq-eqb, ne_eqb}
 use Rattle.plan.specs.Telling.{fault_text}
-use borrow.Author.Rules.{rules}
 use Rattle.plan.proofs.telling.put_fault.Goals as goal
 
 pub returns-then-fault-eq1 : goal.returns-then-fault-eq1

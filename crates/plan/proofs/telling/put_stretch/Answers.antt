@@ -2,7 +2,6 @@
 -- Assumes nothing.
 use Rattle.plan.specs.Telling.{stretch}
 use Rattle.streams.proofs.Following.{follows_more}
-use borrow.Author.Rules.{rules}
 use Rattle.plan.proofs.telling.put_stretch.Goals as goal
 
 pub returns : goal.returns

@@ -1,12 +1,9 @@
 -- `plan::telling::put_table` meets its contract: the lines of the moves before number k are told.
 -- Assumes nothing.
 use Prim.Native.Nat.{◌*◌, ◌-◌, ◌≤◌}
-use mathlib.Core.Path.{◌≡◌, refl}
-use native.Mathlib.Omega.{arith}
+use mathlib.Core.Path.{◌≡◌}
 use lib.ListN.{length}
-use Rattle.planner.proofs.Moves.{counted_is}
-use Rattle.plan.proofs.Table.{Tells, table_begins, table_on, table_over}
-use borrow.Author.Rules.{rules}
+use Rattle.plan.proofs.Table.{Tells}
 use Rattle.plan.proofs.telling.put_table.Given as goal
 
 abbrev pub invariant-loop-k : goal.invariant-loop-k

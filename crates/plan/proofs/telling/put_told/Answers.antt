@@ -1,7 +1,6 @@
 -- `plan::telling::put_told` meets its contract: the answer, and the area that it leaves.
 -- Assumes nothing.
 use Rattle.plan.proofs.Answers.{taken, answer_told}
-use borrow.Author.Rules.{rules}
 use Rattle.plan.proofs.telling.put_told.Goals as goal
 
 pub put_answer-requires : goal.put_answer-requires

@@ -1,6 +1,5 @@
 -- `plan::telling::put_written` meets its contract: by what is asked for.
 -- Assumes nothing.
-use borrow.Author.Rules.{rules}
 use Rattle.plan.proofs.telling.put_written.Goals as goal
 
 pub returns-then-check : goal.returns-then-check

@@ -5,7 +5,6 @@ use mathlib.Core.Path.{sym, ap, ◌∙◌}
 use Prim.Native.Nat.{◌*◌}
 use lib.Seq.{length-take-le, take_all}
 use Rattle.plan.specs.Telling.{told}
-use borrow.Author.Rules.{rules}
 use Rattle.plan.proofs.telling.told_first.Goals as goal
 
 pub slice_bounds-told_whole-end : goal.slice_bounds-told_whole-end

@@ -3,7 +3,6 @@
 use mathlib.Core.Path.{ap, ◌∙◌}
 use lib.ListN.{take}
 use Rattle.plan.proofs.Fits.{told_whole}
-use borrow.Author.Rules.{rules}
 use Rattle.plan.proofs.telling.told_whole.Goals as goal
 
 pub returns : goal.returns

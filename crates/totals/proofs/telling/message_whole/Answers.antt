@@ -3,7 +3,6 @@
 use Rattle.totals.proofs.Fits.{message_whole}
 use mathlib.Core.Path.{ap}
 use lib.ListN.{take}
-use borrow.Author.Rules.{rules}
 use Rattle.totals.proofs.telling.message_whole.Goals as goal
 
 pub returns : goal.returns

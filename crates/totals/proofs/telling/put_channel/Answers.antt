@@ -3,7 +3,6 @@
 use Rattle.totals.specs.Telling.{line_of}
 use Rattle.formats.specs.Checks.{text}
 use Rattle.streams.proofs.Following.{follows_more}
-use borrow.Author.Rules.{rules}
 use Rattle.totals.proofs.telling.put_channel.Goals as goal
 
 pub returns : goal.returns

@@ -4,7 +4,6 @@ use Rattle.formats.specs.Digits.{error_text}
 use Rattle.totals.specs.Telling.{message_of}
 use Rattle.formats.specs.Checks.{text}
 use Rattle.streams.proofs.Following.{follows_more}
-use borrow.Author.Rules.{rules}
 use Rattle.totals.proofs.telling.put_message.Goals as goal
 
 pub returns : goal.returns

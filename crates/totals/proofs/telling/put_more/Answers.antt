@@ -1,7 +1,6 @@
 -- `totals::telling::put_more` meets its contract: by whether it may be more.
 -- Assumes nothing.
 use Rattle.formats.specs.Checks.{text}
-use borrow.Author.Rules.{rules}
 use Rattle.totals.proofs.telling.put_more.Goals as goal
 
 pub returns-then-more : goal.returns-then-more

@@ -1,11 +1,8 @@
 -- `totals::telling::put_name` meets its contract: `-` is standard input, and every other name is told as it is.
 -- Assumes nothing.
-use borrow.Author.Tests.{eqb-true, eqb-false}
-use mathlib.Core.Logic.{⊎_elim}
 use Rattle.streams.proofs.Following.{follows_more}
 use Rattle.totals.proofs.Names.{name_dash, name_other}
 use Rattle.formats.specs.Checks.{text}
-use borrow.Author.Rules.{rules}
 use Rattle.totals.proofs.telling.put_name.Goals.{else-name-eq1-via-then-name-eq1+else-name-eq45, else-name-eq1-via-else-name-eq1}
 use Rattle.totals.proofs.telling.put_name.Goals as goal
 

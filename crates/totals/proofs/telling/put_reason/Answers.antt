@@ -4,7 +4,6 @@ use Rattle.totals.specs.Telling.{reason_text}
 use Rattle.formats.specs.Checks.{text}
 use borrow.Author.Tests.{eq-eqb, ne_eqb}
 use native.Mathlib.Omega.{arith}
-use borrow.Author.Rules.{rules}
 use Rattle.totals.proofs.telling.put_reason.Goals as goal
 
 pub record_at-first-requires : goal.record_at-first-requires

@@ -1,11 +1,10 @@
 -- `totals::telling::put_table` meets its contract: the lines of the channels before place i are told.
 -- Assumes nothing.
 use Rattle.channels.specs.Totals.{unused}
-use Prim.Native.Nat.{◌-◌, ◌≤◌}
 use mathlib.Core.Path.{◌≡◌, refl}
 use native.Mathlib.Omega.{arith}
 use lib.ListN.{length}
-use Rattle.totals.proofs.Table.{Lines, table_begins, table_on, table_over}
+use Rattle.totals.proofs.Table.{table_begins, table_on, table_over}
 use borrow.Author.Rules.{rules}
 use Rattle.totals.proofs.telling.put_table.Goals as goal
 

@@ -3,7 +3,6 @@
 use Rattle.totals.specs.Telling.{unknown_line}
 use Rattle.formats.specs.Checks.{text}
 use Rattle.streams.proofs.Following.{follows_more}
-use borrow.Author.Rules.{rules}
 use Rattle.totals.proofs.telling.put_unknown.Goals as goal
 
 pub returns : goal.returns

@@ -3,7 +3,6 @@
 use Rattle.totals.specs.Telling.{word_text}
 use Rattle.formats.specs.Checks.{text}
 use Rattle.streams.proofs.Following.{follows_more}
-use borrow.Author.Rules.{rules}
 use Rattle.totals.proofs.telling.put_word.Goals as goal
 
 pub returns : goal.returns
