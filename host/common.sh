@@ -4,7 +4,7 @@
 host=$(CDPATH='' cd -- "$(dirname -- "${BASH_SOURCE[0]}")" && pwd)
 top=$(dirname "$host")
 out=$top/target/host
-archive=$top/target/staticlib/libnizhalepu.a
+archive=$top/crates/nizhalepu/out/libnizhalepu.a
 damages=69 # the errors that independent/ can be built with
 duration_damages=" 33 34 " # those of them that are in the durations
 explain_damages=" 47 48 49 50 51 " # and in why a program stops

@@ -3,12 +3,12 @@
 
 machine=$(uname -m)
 
-# find_kit: leaves the toolchain's folder in `kit` (the guide that `rt doc` names stands one folder down in it), and in `runner` the words
-# that stand before a program to run it here.
+# find_kit: leaves the toolchain's folder in `kit` (the page that `rt doc` names stands in it), and in `runner` the words that stand before a
+# program to run it here.
 find_kit() {
     local guide emulator
     guide=$(rt doc) || fail "'rt doc' fails: is the toolchain installed?"
-    kit=$(dirname "$(dirname "$guide")")
+    kit=$(dirname "$guide")
     runner=()
     case $machine in
         x86_64) ;;

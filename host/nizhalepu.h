@@ -1,7 +1,7 @@
 /* nizhalepu.h: the proved controller of a 32-way switch box, for a main loop in C.
  *
- * Link with target/staticlib/libnizhalepu.a (x86-64), which `rt staticlib nizhalepu` proves and makes; all
- * that it may need of a C library is memcpy. The rules are those of document 01 and of document 02, items 1 (the
+ * Link with crates/nizhalepu/out/libnizhalepu.a (x86-64), which `rt lib` in crates/nizhalepu proves and makes; all
+ * that it may need of a C library is memcpy and memset. The rules are those of document 01 and of document 02, items 1 (the
  * log as text), 2 (a loop of none), 3 (why a special command was not taken), 4 (a bad stored line), 5 (less
  * stack), 6 (how long a program takes), 7 (the first increment), 8 (what a gap tells), 9 (why a program stops),
  * 10 (an inclining plan as a program) and 11 (switching totals per channel); the Rattle source of these calls, with

@@ -26,27 +26,44 @@ chmod 711 "$place" && mkdir -m 1777 "$place/tmp" && export TMPDIR=$place/tmp || 
 small_repository() {
     mkdir -p "$small/host" "$small/crates/words/src" "$small/crates/unproved/src" &&
         cp "$top/run" "$small/run" && cp "$top/host/kit.sh" "$small/host/kit.sh" || return 1
-    printf '%s: io libc os\n' words unproved >"$small/crates.txt"
+    printf '%s:\n' words unproved >"$small/crates.txt"
     cat >"$small/crates/words/src/main.rt" <<'END'
-fn show(i: usize) {
-    let mut word = io::buffer();
-    let n = os::arg(i, &mut word);
-    io::write_all(1, &word[..n]);
-    io::write_all(1, &[10]);
+#![tactic(auto)]
+
+use std::env::{Env, FillError};
+use std::io::Write;
+
+fn show(rt: &HostRuntime, i: usize) {
+    let mut word = [0u8; 4096];
+    let n = match rt.arg(i, &mut word) {
+        Ok(n) => n,
+        Err(FillError::TooLong) => word.len(),
+        Err(FillError::NotPresent) => 0,
+    };
+    let _ = rt.write_all(&word[..n]);
+    let _ = rt.write_all(b"\n");
 }
 
-fn main() {
-    show(1);
-    show(2);
+fn main(rt: HostRuntime) {
+    show(&rt, 1);
+    show(&rt, 2);
 }
 END
     printf '\n\n' >"$small/crates/words/stdout"
     cat >"$small/crates/unproved/src/main.rt" <<'END'
-fn main() {
+#![tactic(auto)]
+
+use std::env::Env;
+use std::io::Write;
+
+fn main(rt: HostRuntime) {
     let mut bytes = [0u8; 4];
-    let n = io::read_full(0, &mut bytes);
+    let n = match rt.arg(1, &mut bytes) {
+        Ok(n) => n,
+        Err(_) => 4,
+    };
     bytes[n] = 1;
-    io::write_all(1, &bytes);
+    let _ = rt.write_all(&bytes);
 }
 END
 }
@@ -66,19 +83,31 @@ script() {
     } >"$1" && chmod +x "$1"
 }
 
-# stubbed: the small repository on an x86-64 machine, with a stub for rt. The lines that are read are what `rt check` does; `link` among them
-# makes the program from $place/program, which prints its arguments.
+# stubbed: the small repository on an x86-64 machine, with a stub for rt. The lines that are read are what `rt run` does, in the crate's folder;
+# `link` among them makes the program from $place/program, which prints its arguments.
 stubbed() {
-    small_repository && script "$place/stubs/uname" <<<'echo x86_64' && script "$place/program" <<<'printf "%s\n" "$@"' && {
-        echo 'if [ "$1" = doc ]; then echo "$place/kit/docs/guide"; exit; fi'
-        echo 'link() { cat "$place/program" >target/bin/words && chmod +x target/bin/words; }'
+    small_repository && rm "$small/crates/words/stdout" && script "$place/stubs/uname" <<<'echo x86_64' &&
+        program <<<'printf "%s\n" "$@"' && {
+        echo 'if [ "$1" = doc ]; then echo "$place/kit/guide"; exit; fi'
+        echo 'link() { cat "$place/program" >out/words && chmod +x out/words; }'
         cat
     } | script "$place/stubs/rt" && PATH=$place/stubs:$PATH
 }
 
+# quiet_example: the lines that are read, behind one for the folder in which run tries the program first: nothing is stored with it there.
+quiet_example() {
+    echo 'case $PWD in */data) exit ;; esac'
+    cat
+}
+
+# program: the program of the stub for rt, of the lines that are read.
+program() {
+    quiet_example | script "$place/program"
+}
+
 # emulated: on an Arm machine, with a stub for the toolchain's emulator, which does what the lines say that are read.
 emulated() {
-    script "$place/stubs/uname" <<<'echo aarch64' && script "$place/kit/on/aarch64/toolchain/bin/qemu-x86_64"
+    script "$place/stubs/uname" <<<'echo aarch64' && quiet_example | script "$place/kit/on/aarch64/toolchain/bin/qemu-x86_64"
 }
 
 # ends STATUS COMMAND...: what it writes is left in $place/wrote, what it says in $place/said.
@@ -110,11 +139,22 @@ comes() {
     return 1
 }
 
+# comes_in FILE PATTERN: waits for such a line, at most a minute.
+comes_in() {
+    local turn
+    for ((turn = 0; turn < 600; turn++)); do
+        ! grep -q -e "$2" "$1" || return 0
+        sleep 0.1
+    done
+    echo "no line $2 comes"
+    return 1
+}
+
 # ---- Arguments, input and output
 
 # What the program says is status 1 also where it cannot be kept, as with a full temporary folder.
 unkept() {
-    stubbed <<<'link' && script "$place/program" <<<'echo cannot read >&2; echo answer' &&
+    stubbed <<<'link' && program <<<'echo cannot read >&2; echo answer' &&
         script "$place/stubs/tee" <<<'cat; case $* in *said.out) exit 1 ;; esac' && ends 1 "$small/run" words && wrote answer &&
         [ "$(tail -n 1 "$place/said")" = 'cannot read' ]
 }
@@ -122,7 +162,7 @@ unkept() {
 # A signal that ends run ends the program too, which has the caller's input.
 signalled() {
     local signal
-    stubbed <<<'link' && script "$place/program" <<<'echo $$ >"$place/number"; exec sleep 60' || return 1
+    stubbed <<<'link' && program <<<'echo $$ >"$place/number"; exec sleep 60' || return 1
     for signal in HUP INT QUIT TERM; do
         rm -f "$place/number"
         (trap - INT QUIT; exec setsid "$small/run" words) </dev/null >/dev/null 2>&1 &
@@ -177,55 +217,55 @@ example_wrong() {
     small_repository && echo else >"$small/crates/words/stdout" && not_run words 'words is proved, but its run on its stored input went wrong'
 }
 
-# The prover could not tell: rt's status 3, or its status 1 where no proof failed.
+# The prover could not tell, which is rt's status 3, and not 1.
 could_not_tell() {
-    stubbed <<<'link; echo "rt: words NOT PROVED (exit 3, 0 s)"; exit 1' && not_run words 'the prover could not tell' &&
-        stubbed <<<'link; printf "rt: %s NOT PROVED (exit %s, 0 s)\n" a 3 b 1; exit 1' && not_run words 'words is not proved' &&
-        stubbed <<<'link; exit 3' && not_run words 'the prover could not tell'
+    stubbed <<<'link; echo "rattle: no verdict: out of steps" >&2; exit 3' && not_run words 'the prover could not tell' &&
+        stubbed <<<'link; echo "rattle build: nothing was built, since only a proved crate is built" >&2; exit 1' &&
+        not_run words 'words is not proved' && stubbed <<<'link; echo "rt: a word" >&2; exit 1' && not_run words 'rt refuses words'
 }
 
 # The toolchain fails where a library is not whole whose stamp is there, as after an interrupted gate. The cure that is told is one.
 toolchain_failed() {
-    small_repository && mkdir -p "$small/crates/seven/src" && printf 'seven:\nwords: seven io libc os\n' >"$small/crates.txt" &&
-        printf 'pub fn seven() -> usize {\n    7\n}\n' >"$small/crates/seven/src/lib.rt" && ends 0 "$small/run" words || return 1
-    rm "$small/target/rlib/seven.rlib/format" "$small/target/stamp/words" && not_run words 'the toolchain failed' || return 1
-    [[ $(tail -n 1 "$place/said") = *"in $small: rm -rf target" ]] && (cd "$small" && rm -rf target) &&
+    small_repository && mkdir -p "$small/crates/seven/src" && printf 'seven:\nwords: seven\n' >"$small/crates.txt" &&
+        printf '#![tactic(auto)]\n\npub fn seven() -> usize {\n    7\n}\n' >"$small/crates/seven/src/lib.rt" && ends 0 "$small/run" words || return 1
+    rm "$small/crates/seven/out/rlib/seven.rlib/format" "$small/crates/words/out/words.stamp" && not_run words 'the toolchain failed' || return 1
+    [[ $(tail -n 1 "$place/said") = *"in $small: rm -rf crates/*/out" ]] && (cd "$small" && rm -rf crates/*/out) &&
         ends 0 "$small/run" words a b && wrote a b
 }
 
 # The same where the program is gone whose stamp is there: rt has nothing to say.
 half_removed() {
-    stubbed <<<':' && not_run words 'words is proved, but ' && [[ $(tail -n 1 "$place/said") = *"in $small: rm -rf target" ]]
+    stubbed <<<':' && not_run words 'words is proved, but ' && [[ $(tail -n 1 "$place/said") = *"in $small: rm -rf crates/*/out" ]]
 }
 
 # The same where it is empty, as a power cut can leave it: bash would run it, and nothing written with status 0 is an answer of some programs.
 empty_program() {
-    stubbed <<<': >target/bin/words && chmod +x target/bin/words' && not_run words 'words is proved, but its file is empty' &&
-        [[ $(tail -n 1 "$place/said") = *"in $small: rm -rf target" ]]
+    stubbed <<<': >out/words && chmod +x out/words' && not_run words 'words is proved, but its file is empty' &&
+        [[ $(tail -n 1 "$place/said") = *"in $small: rm -rf crates/*/out" ]]
 }
 
 # A list of crates that rt does not take is neither a proof that failed nor the toolchain's failure: a library that is not there, one that
 # is listed and is not there, a line that is none.
 bad_crates() {
-    small_repository && echo 'words: io nothing' >"$small/crates.txt" && not_run words 'rt refuses words' &&
-        printf 'words: io nothing\nnothing:\n' >"$small/crates.txt" && not_run words 'rt refuses words' &&
-        printf 'words: io libc os\nnothing\n' >"$small/crates.txt" && not_run words 'rt cannot begin'
+    small_repository && echo 'words: nothing' >"$small/crates.txt" && not_run words 'rt cannot begin' &&
+        printf 'words: nothing\nnothing:\n' >"$small/crates.txt" && not_run words 'rt cannot begin' &&
+        printf 'words:\nno line\n' >"$small/crates.txt" && not_run words 'rt cannot begin'
 }
 
 # The prover is killed, or rt is; what a killed rt had started is ended, and the next run does not wait for it.
 killed() {
-    stubbed <<<'link; echo "rt: words NOT PROVED (exit 137, 0 s)"; echo "rt: FAILED: words"; exit 2' &&
-        not_run words 'the prover was ended by a signal' && stubbed <<<'link; sleep 60 >/dev/null 2>&1 & kill -9 $$' &&
-        not_run words 'rt was ended by a signal (status 137)' && stubbed <<<'link' && ends 0 timeout 20 "$small/run" words ran && wrote ran
+    stubbed <<<'link; exit 247' && not_run words 'the prover was ended by a signal' &&
+        stubbed <<<'link; sleep 60 >/dev/null 2>&1 & kill -9 $$' && not_run words 'rt was ended by a signal (status 137)' &&
+        stubbed <<<'link' && ends 0 timeout 20 "$small/run" words ran && wrote ran
 }
 
-# A folder that cannot be written, without a target/ and with a whole one, and a verdict that cannot be: one line, and rt is not asked. Root
+# A folder that cannot be written, without an out/ and with a whole one, and a stamp that cannot be: one line, and rt is not asked. Root
 # can write everywhere, and so runs this as nobody.
 read_only() {
-    stubbed <<<'echo called >>"$deeds"; link' && chmod -R a-w "$small" && barred target && chmod -R u+w "$small" && ends 0 "$small/run" words &&
-        rm "$deeds" && chmod -R a-w "$small" && barred target/bin/ || return 1
-    chmod -R a+w "$small" && echo proved >"$small/target/log/words.res" && chmod a-w "$small/target/log/words.res" &&
-        barred target/log/words.res && [ ! -e "$deeds" ]
+    stubbed <<<'echo called >>"$deeds"; link' && chmod -R a-w "$small" && barred crates/words/out && chmod -R u+w "$small" &&
+        ends 0 "$small/run" words && rm "$deeds" && chmod -R a-w "$small" && barred crates/words/out/ || return 1
+    chmod -R a+w "$small" && echo proved >"$small/crates/words/out/words.stamp" && chmod a-w "$small/crates/words/out/words.stamp" &&
+        barred crates/words/out/words.stamp && [ ! -e "$deeds" ]
 }
 
 # barred FILE: run says one line, that it cannot be written.
@@ -241,7 +281,7 @@ barred() {
 # The second waits with its proof, and says so once; then the programs run at the same time. The first prover waits until that is said, and
 # each program until the other is there.
 two_at_once() {
-    stubbed <<'END' && script "$place/program" <<'END_OF_PROGRAM' || return 1
+    stubbed <<'END' && program <<'END_OF_PROGRAM' || return 1
 echo begins >>"$deeds"
 turn=0
 until grep -q waits "$place/said" 2>/dev/null || [ $((turn += 1)) = 100 ]; do sleep 0.1; done
@@ -260,7 +300,7 @@ END_OF_PROGRAM
 
 # Two in one pipeline, of which the first writes more than a pipe holds.
 pipeline() {
-    stubbed <<<'sleep 1; link' && script "$place/program" <<<'if [ "$1" = write ]; then head -c 300000 /dev/zero; else wc -c; fi' &&
+    stubbed <<<'sleep 1; link' && program <<<'if [ "$1" = write ]; then head -c 300000 /dev/zero; else wc -c; fi' &&
         ends 0 timeout 60 bash -c 'set -o pipefail; "$1" words write | "$1" words count' bash "$small/run" && wrote 300000
 }
 
@@ -274,7 +314,7 @@ linked_anew() {
 
 # The program has no descriptor of the lock.
 descriptors() {
-    stubbed <<<'link' && script "$place/program" <<<'readlink /proc/$$/fd/*; true' && ends 0 "$small/run" words &&
+    stubbed <<<'link' && program <<<'readlink /proc/$$/fd/*; true' && ends 0 "$small/run" words &&
         [ -s "$place/wrote" ] && ! grep '/a repository$' "$place/wrote"
 }
 
@@ -304,10 +344,10 @@ interrupted() {
 # The prover itself, as a Ctrl-C ends it: no temporary file is left, and the next run proves.
 proof_interrupted() {
     small_repository || return 1
-    env --default-signal=INT setsid "$small/run" words >/dev/null 2>&1 &
-    comes "$small/target/log/words.say" && sleep 0.3 && kill -s INT -- -$! || return 1
+    env --default-signal=INT setsid "$small/run" words >/dev/null 2>"$place/said" &
+    comes_in "$place/said" '^rt: chose' && sleep 0.3 && kill -s INT -- -$! || return 1
     wait $!
-    [ $? = 130 ] && [ ! -e "$small/target/stamp/words" ] && [ -z "$(ls -A "$TMPDIR")" ] && ends 0 "$small/run" words a b && wrote a b
+    [ $? = 130 ] && [ ! -e "$small/crates/words/out/words.stamp" ] && [ -z "$(ls -A "$TMPDIR")" ] && ends 0 "$small/run" words a b && wrote a b
 }
 
 # ---- Help

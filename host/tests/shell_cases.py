@@ -13,7 +13,7 @@ import time
 import tty
 
 from durations_cases import FIVE, LONGEST, ONE, REFUSED
-from shell_program import FOLDER, MISSING, folder, open_fifo, same, store, untouched, waiting_bytes
+from shell_program import FOLDER, MISSING, NO_TEXT, folder, open_fifo, same, store, untouched, waiting_bytes
 
 END_OF_INPUT = b"\xfe"  # the character of the terminal here that is Ctrl-D on others: a byte that no sample has
 
@@ -101,12 +101,16 @@ NAMES = [b"two  words", b" ", b" x ", "Krängung – 傾.log".encode(), b"\xff\x
 
 
 def odd_names(program):
-    """Every byte of a name is taken and told as it is."""
+    """Every byte of a name is taken and told as it is. One that is not UTF-8 is told by a Rattle program, and not opened."""
     for name in NAMES:
         with folder():
-            program.fails(b"", b"cannot open '%s': %s" % (name, MISSING.encode()), name)
+            why = MISSING if program.can_open(name) else NO_TEXT
+            program.fails(b"", b"cannot open '%s': %s" % (name, why.encode()), name)
             store(name, program.sample.given)
-            program.writes(program.whole, name)
+            if program.can_open(name):
+                program.writes(program.whole, name)
+            else:
+                program.fails(b"", b"cannot open '%s': %s" % (name, NO_TEXT.encode()), name)
 
 
 def empty_name(program):

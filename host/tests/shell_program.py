@@ -25,7 +25,7 @@ from plan_cases import program as planned
 from programs import SECONDS, Talk, equal, shown
 from totals_cases import text as totals
 
-FOLDER, MISSING = "Is a directory", "No such file or directory"
+FOLDER, MISSING, NO_TEXT = "Is a directory", "No such file or directory", "its name is not UTF-8"
 
 
 class Sample(NamedTuple):
@@ -85,6 +85,14 @@ class Program:
         self.seconds = SECONDS if self.by_run else 60
         self.whole = self.sample.answer + self.sample.end
         self.words, self.standard = self.sample.words, self.sample.standard
+
+    def can_open(self, name):
+        """A Rattle program takes a name as text: a file whose name is not UTF-8 is one that it cannot open."""
+        try:
+            name.decode()
+        except UnicodeDecodeError:
+            return self.independent
+        return True
 
     def lines(self, messages):
         """Messages as this program says them."""

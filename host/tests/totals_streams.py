@@ -7,7 +7,7 @@ import time
 
 from loglist_records import change, gap
 from shell_cases import NAMES, name_of
-from shell_program import FOLDER, MISSING, Program, folder, open_fifo, same, store, untouched
+from shell_program import FOLDER, MISSING, NO_TEXT, Program, folder, open_fifo, same, store, untouched
 from totals_cases import FULL, LAST, LATER, ONE, TWO, text
 
 ZEROS = text().encode()
@@ -107,11 +107,14 @@ def failure_ends_it(program):
 
 
 def names_in_refusals(program):
-    """Every byte of a name is told as it is, and 4,096 of them at most."""
+    """Every byte of a name is told as it is, and 4,096 of them at most. One that is not UTF-8 is not opened by a Rattle program."""
     for name in NAMES:
         with folder():
             store(name, b"x")
-            program.fails(b"E050\n", b"'%s' %s" % (name, CUT.encode()), name)
+            if program.can_open(name):
+                program.fails(b"E050\n", b"'%s' %s" % (name, CUT.encode()), name)
+            else:
+                program.fails(b"", b"cannot open '%s': %s" % (name, NO_TEXT.encode()), name)
     with folder(cut=b"x"):
         for length in (4094, 4095):
             name = name_of(length, "cut")

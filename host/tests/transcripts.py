@@ -11,13 +11,13 @@ backslash it goes on in the next line. What follows, to the next command or to t
 The commands of a page run in their order in one shell, in a folder of their own that has a link to each thing at the top of the
 repository: what they make, they make there. Its output is a terminal, so that a page shows what a reader sees, standard output and
 standard error alike, and it is compared byte for byte. Each command must end with status 0, each part of a pipe too: one that is
-shown to fail says its status itself (`; echo $?`). Only what the prover says is not shown: `rt check` is silent here unless it fails.
+shown to fail says its status itself (`; echo $?`). Only what the prover says is not shown: `rt run` is silent here unless it fails.
 
 What a command in the background prints belongs to the command that was given last before it came. So as many lines are waited for as
 are shown.
 
-At the end of a page no process may be left that it started, and outside target/ the tree must be as it was. A command elsewhere than
-in such a block is a fault too: no transcript is unchecked. So is a program without a page, a page that has not the form
+At the end of a page no process may be left that it started, and outside target/ and the crates' out/ the tree must be as it was. A
+command elsewhere than in such a block is a fault too: no transcript is unchecked. So is a program without a page, a page that has not the form
 of the others or stands not in README, and a README of 150 lines.
 """
 import contextlib
@@ -214,11 +214,13 @@ class Shell:
 # ---- a page
 
 def tree(top):
-    """Every name outside .git and target, and of a file what a write to it changes."""
+    """Every name outside .git, target and the crates' out, and of a file what a write to it changes."""
     found = {}
     for folder, folders, files in os.walk(top):
         if folder == top:
             folders[:] = [name for name in folders if name not in (".git", "target")]
+        if os.path.dirname(folder) == os.path.join(top, "crates"):
+            folders[:] = [name for name in folders if name != "out"]
         for name in folders + files:
             status = os.lstat(os.path.join(folder, name))
             is_folder = stat.S_ISDIR(status.st_mode)
@@ -227,7 +229,7 @@ def tree(top):
 
 
 SILENT_RT = """#!/bin/sh
-[ "$1" = check ] || exec {rt} "$@"
+[ "$1" = run ] || exec {rt} "$@"
 said=$({rt} "$@" 2>&1) || {{
     status=$?
     printf '%s\\n' "$said" >&2
