@@ -16,7 +16,7 @@ trap 'chmod -R u+w "$place"; rm -rf "$place"' EXIT
 small="$place/a repository"
 deeds=$place/deeds # what stubs did, a line for each deed
 
-# Others than root come here too: rt runs a program as nobody for root, and `read_only` does so with run.
+# Others than root come here too: `read_only` has run called by nobody.
 chmod 711 "$place" && mkdir -m 1777 "$place/tmp" && export TMPDIR=$place/tmp || exit 1
 
 # ---- The small repository and the stubs
