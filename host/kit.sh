@@ -4,10 +4,10 @@
 machine=$(uname -m)
 
 # find_kit: leaves the toolchain's folder in `kit` (the page that `rt doc` names stands in it), and in `runner` the words that stand before a
-# program to run it here.
+# program to run it here. rt does not start where standard input is a folder, so it is not given the caller's.
 find_kit() {
     local guide emulator
-    guide=$(rt doc) || fail "'rt doc' fails: is the toolchain installed?"
+    guide=$(rt doc </dev/null) || fail "'rt doc' fails: is the toolchain installed?"
     kit=$(dirname "$guide")
     runner=()
     case $machine in
