@@ -158,7 +158,7 @@ def since(revision):
 def outside():
     rows = [('`host`: header, programs and tests in C, shell and Python', ['host/*', 'host/tests/*.py', 'host/tests/*.sh', 'host/compare/*']),
             ('`independent`: the second box, reader and report, in C', ['independent/*']), ('`model`: the third reading, in Python', ['model/*.py']),
-            ('`tools` and `run`', ['tools/*', 'run'])]
+            ('`tools` and `run`', ['tools/*.py', 'tools/check', 'run'])]
     text = 'Outside Rattle, lines in all:\n\n| Folder | lines |\n|---|---:|\n'
     for name, patterns in rows:
         paths = [path for pattern in patterns for path in glob.glob(os.path.join(ROOT, pattern)) if os.path.isfile(path)]
