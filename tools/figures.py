@@ -53,7 +53,7 @@ def run(command, folder):
     """seconds, megabytes and output of a command"""
     start = time.monotonic()
     with tempfile.TemporaryFile() as said:
-        process = subprocess.Popen(command, cwd=folder, stdout=said, stderr=subprocess.STDOUT, env=dict(os.environ, RT_JOBS='1'))
+        process = subprocess.Popen(command, cwd=folder, stdout=said, stderr=subprocess.STDOUT)
         _, status, used = os.wait4(process.pid, 0)
         said.seek(0)
         text = said.read().decode()
@@ -63,7 +63,7 @@ def run(command, folder):
 
 
 def proved(crate, folder):
-    seconds, megabytes, text = run(['rt', 'check'], os.path.join(folder, 'crates', crate))
+    seconds, megabytes, text = run(['rt', 'check', '--jobs', '1'], os.path.join(folder, 'crates', crate))
     verdict = re.findall(r'^logic=proved .*$', text, re.M)[-1]
     functions = re.search(r'functions=(\d+)', verdict)
     assumed = re.search(r'axioms=(\d+)', verdict)

@@ -135,8 +135,7 @@ def set_apart(own, other):
 
 def proved(place, crate):
     """whether the crate is proved, and what was said of it"""
-    done = subprocess.run(['rt', 'check'], cwd=f'{place}/crates/{crate}', stdout=subprocess.PIPE, stderr=subprocess.STDOUT, text=True,
-                          env=dict(os.environ, RT_JOBS='1'))
+    done = subprocess.run(['rt', 'check', '--jobs', '1'], cwd=f'{place}/crates/{crate}', stdout=subprocess.PIPE, stderr=subprocess.STDOUT, text=True)
     return done.returncode == 0, done.stdout
 
 
@@ -181,7 +180,7 @@ class Place:
             good, said = proved(self.folder, crate)
             if not good:
                 by = errors(said, crate)
-                verdict = 'ill-typed' if crate == edit.crate and f'crates/{crate}/specs/' in said else 'refused'
+                verdict = 'ill-typed' if crate == edit.crate and re.search(r'^\./specs/\S+: error: ', said, re.M) else 'refused'
                 break
         with open(path, 'w') as out:
             out.write(text)
@@ -192,8 +191,8 @@ class Place:
 
 def errors(said, crate):
     """the declarations that are not proved, but for those that only rest on such a one; at most three"""
-    found = re.findall(rf'crates/{crate}/\w+/(\S+)\.antt:\d+:\d+: error: (?:`(\S+)`: )?(?!.*was not admitted)', said)
-    names = list(dict.fromkeys(f'{crate}/{module}' + (f'.{name}' if name else '') for module, name in found))
+    found = re.findall(r'^\./\w+/(\S+)\.antt:\d+:\d+: error: (?!\d+ declarations? that depend)(?:`(\S+)`: )?', said, re.M)
+    names = list(dict.fromkeys(f'{crate}/{module.split("/")[-1]}' + (f'.{name}' if name else '') for module, name in found))
     return ', '.join(names[:3]) + (f' and {len(names) - 3} more' if len(names) > 3 else '') or crate
 
 
