@@ -50,7 +50,7 @@ from promises import is_of_function
 STATEMENTS = 'demands'
 # modules of it that take long to prove, on which no other stands: in the copy they are a crate of their own, `computed`
 # laws that hold the code to a definition, and no definition to anything: left out, so that an edit which only the code would notice survives
-OF_THE_CODE = {'channels': ('Differing', 'Switching', 'Walking', 'Ending', 'LastRead', 'Thin', 'Turns'), 'nizhalepu': ('ChannelRecords',)}
+OF_THE_CODE = {'channels': ('Differing', 'Switching', 'Walking', 'Ending', 'LastRead', 'Thin', 'Turns')}
 SLOW_GROUP, SLOW = 'Applies', ('Worked', 'Applied', 'PutToUse')
 OUTSIDE = {'io', 'streams'}  # what stands on these is a program, or part of one
 SORTS = ('plain', 'pointwise', 'premise')
