@@ -82,7 +82,9 @@ def defining(crates):
 
 
 def strip(crates, names, place):
-    shutil.rmtree(f'{place}/crates', ignore_errors=True)
+    for part in glob.glob(f'{place}/crates/*/*'):
+        if os.path.basename(part) != 'out':  # what an earlier run proved
+            shutil.rmtree(part)
     os.makedirs(place, exist_ok=True)
     with open(f'{place}/crates.txt', 'w') as out:
         out.writelines(f'{c}: {" ".join(crates[c])}\n' for c in names)
