@@ -24,6 +24,7 @@ import os
 import re
 import sys
 
+from crates import types_brought
 from declarations import code, declarations, without_texts
 from promises import QUOTED, laws_file, module_files, theorem_modules
 
@@ -36,11 +37,11 @@ STOPS = {
     ('crates/controller/specs/Controller.antt', 'fresh'): 'the state before the first power-on, in which every other call is refused',
     ('crates/controller/specs/Invariant.antt', 'Invariant'): 'all that the calls require, and proved to hold always: no promise rests on what it says',
     ('crates/demands/specs/Said.antt', 'spoken'):
-        'which command the history reads off the characters: `demands/Replies.accepted-exactly` says it in full, both ways',
+        'which command the history reads off the characters: `demands/Replies.accepted_exactly` says it in full, both ways',
     ('crates/duration/specs/Report.antt', 'report'): 'the report: the code is proved against it, and the theorems say what it answers',
     ('crates/explanation/specs/Report.antt', 'report'): 'the report of a stop, likewise',
-    ('crates/plantext/specs/Reading.antt', 'readerOf'): 'the reader of plans: the code is proved against it, and the theorems say what it reads',
-    ('crates/reader/specs/Reading.antt', 'readingAs'): 'the reader of logs, likewise',
+    ('crates/plantext/specs/Reading.antt', 'reader_of'): 'the reader of plans: the code is proved against it, and the theorems say what it reads',
+    ('crates/reader/specs/Reading.antt', 'reading_as'): 'the reader of logs, likewise',
     ('crates/reader/specs/Listing.antt', 'listing'): 'the text of a log, likewise',
 }
 WORDS = 'Nobody has to believe this'
@@ -107,10 +108,9 @@ class Sources:
 
     def uses(self, what):
         """the types that a type's own lines name"""
-        crate, text = what.path.split('/')[1], read(what.path)
-        brought = {name: from_ for from_, name in re.findall(r'^use (\w+)::(\w+);', text, re.M)}
+        crate, brought = what.path.split('/')[1], types_brought(read(what.path))
         for from_, name in re.findall(r'(?:(\w+)::)?\b([A-Z]\w+)', ' '.join(self.lines[what])):
-            used = self.named(from_ or brought.get(name, crate), name)
+            used = self.named(*((from_, name) if from_ else brought.get(name, (crate, name))))
             if used and used != what:
                 yield used
 
@@ -123,12 +123,12 @@ USE = re.compile(r'^ *(?:pub |ghost )?use (\S+?)(?:\.\{([^}]*)\}| as (\S+?))?;?$
 def module_path(module):
     """the file of a module of the repository, and whether it is one that the toolchain writes for a type: (path, crate, type)"""
     parts = module.split('.')
-    crate = parts[0].replace('Rattle·', '').split('·')[0]
-    if not parts[0].startswith('Rattle·') or len(parts) < 3:
+    if parts[0] != 'Rattle' or len(parts) < 4:
         return None, None, None
-    if parts[2] == 'declared':
-        return None, crate, parts[3]
-    path = f'crates/{crate}/{"/".join(parts[1:])}.antt'
+    crate = parts[1]
+    if parts[3] == 'declared':
+        return None, crate, parts[4]
+    path = f'crates/{crate}/{"/".join(parts[2:])}.antt'
     return (path if os.path.exists(os.path.join(ROOT, path)) else None), crate, None
 
 
@@ -165,7 +165,7 @@ def constructors(data):
 
 # ---- the names that a text uses
 
-TOKEN = re.compile(r'[^\s(){},;`⌜⌝]+')
+TOKEN = re.compile(r'[^\s(){},;`]+')
 KEYWORDS = {'let', 'in', 'do', 'if', 'then', 'else', 'elim', 'record', 'data', 'where', 'Type', ':', '=', '→', '←', '↦', '|', '[', ']', '×', 'pub', 'abbrev',
             'unfoldable'}
 
@@ -200,10 +200,10 @@ class Reader:
 
     def meant(self, file, word):
         """what a word of the file means, None for what is the toolchain's or bound"""
-        if '.' in word.strip('.'):
-            module, _, name = word.partition('.')
-            where = file.modules.get(module)
-            return self.declaring(Name(where, name)) if where else None
+        first, _, rest = word.partition('.')
+        if rest and first in file.modules:  # a module's name; else the dots are projections
+            where = file.modules[first]
+            return self.declaring(Name(where, rest.split('.')[0])) if where else None
         own = file.local(word)
         return own or self.declaring(file.brought.get(word))
 
@@ -225,13 +225,13 @@ class Reader:
         own = binders(text) | set(bound)
         own = {word for word in own if not self.is_constructor(file, word)}
         words = TOKEN.findall(text)
-        plain = {word.rstrip('.') for word, after in zip(words, words[1:] + ['']) if not word.startswith('.') and after != '='} - own - KEYWORDS
+        plain = {word.rstrip('.') for word, after in zip(words, words[1:] + ['']) if not word.startswith('.') and after != '='}
+        plain = {word if word.split('.')[0] in file.modules else word.split('.')[0] for word in plain} - own - KEYWORDS
         found_ = [self.meant(file, word) for word in sorted(plain)]
         everywhere = set(words)
-        mixed = [name for name in list(file.declared) + list(file.brought) if '_' in name.strip('_') or name.startswith('_') or name.endswith('_')]
-        for name in mixed:
-            parts = [part for part in name.split('_') if part]
-            if parts and all(part in everywhere for part in parts) or name in ('_>>=_', '_>>_') and 'do' in everywhere:
+        for name in [name for name in list(file.declared) + list(file.brought) if '◌' in name]:
+            parts = [part for part in name.split('◌') if part]
+            if parts and all(part in everywhere for part in parts) or name in ('◌>>=◌', '◌>>◌') and 'do' in everywhere:
                 found_.append(self.meant(file, name))
         return [what for what in found_ if what]
 
@@ -322,14 +322,24 @@ def stated_in(theorems_):
         yield Name(file.path, one.name), len(one.statement), heads, file.reader.stated(file, one)
 
 
+def clauses_of(head):
+    """what stands in the braces of each `requires` and `ensures` of a function's head"""
+    for start in re.finditer(r'^ *(?:requires|ensures)(?: \w+)? \{', head, re.M):
+        depth, at = 1, start.end()
+        while depth:
+            depth += {'{': 1, '}': -1}.get(head[at], 0)
+            at += 1
+        yield head[start.end():at - 1]
+
+
 def contracts(reader):
     """the same of the contracts of the functions that are called from outside; those of a program are all of its own"""
     for path in CALLED + PROGRAMS:
         file, text = reader.file(path), read(path)
         for public, name, head in re.findall(r'^ *(pub )?(?:extern "C" )?fn (\w+)(.*?)^ *\{$', text, re.M | re.S):
-            said = re.findall(r'⌜(.*?)⌝', head, re.S)
+            said = list(clauses_of(head))
             if said and (public or path in PROGRAMS):
-                lines = [(0, line) for one in said for line in one.split('\n')]
+                lines = [(0, line) for one in said for line in one.strip().split('\n')]
                 yield Name(path, name), len(lines), {}, reader.used(file, lines)
 
 

@@ -13,13 +13,13 @@ import re
 import sys
 
 ROOT = os.path.dirname(os.path.dirname(os.path.abspath(__file__)))
-KIT = ['check', 'bytes', 'io', 'libc', 'os']
+KIT = ['check', 'bytes', 'io']
 
 
 def listed():
     """crate: what its line names, in the order of the file"""
     lines = (line.split('#')[0].partition(':') for line in open(os.path.join(ROOT, 'crates.txt')))
-    return {name.strip(): deps.split() for name, colon, deps in lines if colon}
+    return {name.split()[0]: deps.split() for name, colon, deps in lines if colon}  # `NAME:`, or `NAME staticlib:`
 
 
 def texts(crate, *ends):
@@ -30,14 +30,24 @@ def texts(crate, *ends):
             yield re.sub(rf'{mark} .*', '', open(path, encoding='utf-8').read())
 
 
+def types_brought(text):
+    """name here: (crate, its name there), of what the `use` lines of a source bring in"""
+    found = {}
+    for crate, names, name in re.findall(r'^use (\w+)::(?:\{([^}]*)\}|(\w+));', text, re.M):
+        for one in (names or name).split(','):
+            own, _, other = one.strip().partition(' as ')
+            found[other or own] = (crate, own)
+    return found
+
+
 def types_of(crate, crates):
     """the crate's types, each with the (crate, type) pairs that its declaration names"""
     found = {}
     for text in texts(crate, '.rt'):
-        brought = dict((t, c) for c, t in re.findall(r'^use (\w+)::(\w+);', text, re.M) if c in crates)
+        brought = {name: (c, t) for name, (c, t) in types_brought(text).items() if c in crates}
         for name, body in re.findall(r'pub (?:struct|enum) (\w+)[^{;(]*(\{.*?^\}|\([^)]*\))', text, re.M | re.S):
             words = set(re.findall(r'\b[A-Z]\w+', body))
-            found[name] = {(brought.get(w, crate), w) for w in words if w != name}
+            found[name] = {brought.get(w, (crate, w)) for w in words if w != name}
     return found
 
 
@@ -55,10 +65,11 @@ def held(start, types):
 def direct(crate, crates, types):
     known, named, used = list(crates) + KIT, set(), set()
     for text in texts(crate, '.antt', '.rt'):
-        named |= set(re.findall(r'Rattle·([a-z_]+)', text))
+        named |= set(re.findall(r'Rattle\.([a-z_]+)', text))
     for text in texts(crate, '.rt'):
         named |= set(re.findall(r'(?<![\w:])([a-z_]+)::', text))
         used |= {(c, t) for c, t in re.findall(r'\b([a-z_]+)::([A-Z]\w+)', text) if c in crates}
+        used |= {(c, t) for c, t in types_brought(text).values() if c in crates}
     return [c for c in known if c != crate and c in named | held(used, types)]
 
 

@@ -16,30 +16,25 @@ Edit = collections.namedtuple('Edit', 'crate path line kind old new sort of')
 
 # ---- edits of one line
 
-NUMBER = re.compile(r"(?<![\w.′\"])(0x[0-9A-F]+|\d+)(?![\w\"])")
+NUMBER = re.compile(r"(?<![\w.'\"])(0x[0-9A-F]+|\d+)(?![\w\"])")
 WORDS = [(r'\bltb\b', 'leb'), (r'\bleb\b', 'ltb'), (r'\beqb\b', 'leb'), (r' && ', ' || '), (r' \|\| ', ' && '), (r'\btrue\b', 'false'),
          (r'\bfalse\b', 'true'), (r' \+ 1\b', ''), (r' - 1\b', ''), (r' \+ ', ' - '), (r' - ', ' + '), (r'\btake\b', 'drop'),
          (r'\bdrop\b', 'take'), (r'\bnot \(', '('), (r'\bnot (?=\w)', ''), (r' \* ', ' + '), (r' / ', ' % '), (r' % ', ' / ')]
 
-# where the words stand that an edit may bring in; `formats` has its own by another path
-CHECKS = 'Rattle·formats.specs.Checks'
+# where the words stand that an edit may bring in
 HOMES = {word: module for module, words in [
-    ('lib.Dec', 'eqb ltb leb'), ('lib.ListN', 'take drop length getD'), ('mathlib.Core.Bool', 'true false not && ||'), ('Prim.Native.Nat', '+ - / %'),
-    ('mathlib.Core.List', '∷ [] ++'), ('mathlib.Core.Option', 'none'), ('mathlib.Core.Path', '≡'), (CHECKS, 'if refused'),
-    ('Rattle·controller.specs.Effects', 'isPowerOn isTick isEmptying isPress'), ('Rattle·demands·specs.specs.Seen', 'isTaken')] for word in words.split()}
+    ('Rattle.std.specs.Prelude', 'eqb ltb leb take drop length get_or true false not && || + - / % ∷ [] ++ ≡ if'),
+    ('Rattle.std.proofs.Math.Option', 'none'), ('Rattle.formats.specs.Checks', 'refused'),
+    ('Rattle.controller.specs.Effects', 'is_power_on is_tick is_emptying is_press'), ('Rattle.demands.specs.Seen', 'is_taken')] for word in words.split()}
 
 
-def bringing(text, new, crate):
+def bringing(text, new):
     """the `use` lines that the new lines need and the file does not have"""
     known = {name.split(' as ')[-1] for listed_names in re.findall(r'^use \S+\.\{([^}]*)\}', text, re.M) for name in listed_names.split(', ')}
     known |= {one.name for one in declarations(text)}
-    words_ = {word for line in new for word in re.split(r'[\s()]+', without_texts(code(line))) if word in HOMES}
-    needed = {word: {'if': 'if_then_else_', '[]': '[]'}.get(word, word if word.isalpha() else f'_{word}_') for word in words_}
-    return [f'use {path_in(HOMES[word], crate)}.{{{name}}}' for word, name in sorted(needed.items()) if name not in known]
-
-
-def path_in(module, crate):
-    return module.replace('Rattle·formats.', 'Rattle·formats·specs.') if crate == 'formats' else module
+    words_ = {word for line in new for word in re.split(r'[\s().]+', without_texts(code(line))) if word in HOMES}
+    needed = {word: {'if': 'if◌then◌else◌', '[]': '[]'}.get(word, word if word.replace('_', '').isalpha() else f'◌{word}◌') for word in words_}
+    return [f'use {HOMES[word]}.{{{name}}}' for word, name in sorted(needed.items()) if name not in known]
 
 
 def replaced(text, match, new):
@@ -75,10 +70,15 @@ def branches(text):
 
 def neighbours(text, like, scope):
     """a name for another of the same type that the file knows; a field is known by its record"""
-    for match in re.finditer(r"(?<![\w·])\.?[A-Za-z]\w*(?![\w.])", text):
-        for other in like.get(match.group(), []) if match.group()[0] == '.' or match.group() in scope else []:
-            if other in scope or other.startswith('.'):
-                yield 'neighbour', replaced(text, match, other)
+    for match in re.finditer(r"(?<![\w◌])[A-Za-z]\w*(?![\w◌])", text):
+        before, name = text[:match.start()], match.group()
+        if re.search(r"[\w')]\.$", before) and not re.search(r'\b[A-Z]\w*\.$', before):  # behind a module's name it is no field
+            for other in like.get('.' + name, []):
+                yield 'neighbour', replaced(text, match, other[1:])
+        elif name in scope and (text[match.end():match.end() + 1] != '.' or re.match(r'\.[a-z]', text[match.end():]) and name.islower()):
+            for other in like.get(name, []):
+                if other in scope:
+                    yield 'neighbour', replaced(text, match, other)
 
 
 def fields(text, types):
@@ -120,7 +120,7 @@ def fits(text, own, other):
     return not bound & set(re.findall(r'\w+', text))
 
 
-IS_GUARD = re.compile(r' +[^←]* orElse [^←]*$')
+IS_GUARD = re.compile(r' +[^←]* or_else [^←]*$')
 
 
 def of_two(lines, i):

@@ -5,7 +5,8 @@ Usage: python3 tools/figures.py [--gate]
        python3 tools/figures.py --since REVISION
 
 Each crate is proved in a copy of the repository, one at a time, over those below it. With --gate the gate (.ci/run) is run in the copy
-too and its time and last line are written; without it the paper keeps the line that it has.
+too and its time and last line are written, which say how long it takes over what it has kept on this machine; without it the paper keeps the
+line that it has.
 
 What the paper says of wrong definitions is kept: it is written by hand, from the last line of tools/wrong_definitions.py.
 
@@ -20,19 +21,21 @@ import sys
 import tempfile
 import time
 
+from crates import listed
+from promises import is_of_function
+
 ROOT = os.path.dirname(os.path.dirname(os.path.abspath(__file__)))
 PAPER = os.path.join(ROOT, 'docs/FIGURES.md')
 
 
-def crates():
-    with open(os.path.join(ROOT, 'crates.txt')) as file:
-        return [line.split(':')[0] for line in file if ':' in line and not line.startswith('#')]
+def files(pattern):
+    return glob.glob(os.path.join(ROOT, pattern), recursive=True)
 
 
-def lines(pattern):
+def lines(paths):
     """lines that are neither blank nor comment"""
     count = 0
-    for path in glob.glob(os.path.join(ROOT, pattern), recursive=True):
+    for path in paths:
         with open(path) as file:
             count += sum(1 for line in file if line.strip() and not line.strip().startswith(('--', '//')))
     return count
@@ -40,16 +43,17 @@ def lines(pattern):
 
 def sizes(crate):
     base = f'crates/{crate}'
-    proofs = lines(f'{base}/proofs/**/Proof.antt')
-    return {'code': lines(f'{base}/src/**/*.rt'), 'definitions': lines(f'{base}/specs/**/*.antt'), 'laws': lines(f'{base}/proofs/**/*.antt') - proofs,
-            'proofs': proofs, 'edits': len(glob.glob(os.path.join(ROOT, base, 'must-fail/*.edit')))}
+    proofs = files(f'{base}/proofs/**/*.antt')
+    return {'code': lines(files(f'{base}/src/**/*.rt')), 'definitions': lines(files(f'{base}/specs/**/*.antt')),
+            'laws': lines(path for path in proofs if not is_of_function(path)), 'proofs': lines(path for path in proofs if is_of_function(path)),
+            'edits': len(files(f'{base}/must-fail/*.edit'))}
 
 
 def run(command, folder):
     """seconds, megabytes and output of a command"""
     start = time.monotonic()
     with tempfile.TemporaryFile() as said:
-        process = subprocess.Popen(command, cwd=folder, stdout=said, stderr=subprocess.STDOUT, env=dict(os.environ, RT_JOBS='1'))
+        process = subprocess.Popen(command, cwd=folder, stdout=said, stderr=subprocess.STDOUT)
         _, status, used = os.wait4(process.pid, 0)
         said.seek(0)
         text = said.read().decode()
@@ -59,9 +63,8 @@ def run(command, folder):
 
 
 def proved(crate, folder):
-    seconds, megabytes, text = run(['rt', 'check', crate], folder)
-    own = text[:text.index(f'rt: {crate} proved')]
-    verdict = re.findall(r'^logic=proved .*$', own, re.M)[-1]
+    seconds, megabytes, text = run(['rt', 'check', '--jobs', '1'], os.path.join(folder, 'crates', crate))
+    verdict = re.findall(r'^logic=proved .*$', text, re.M)[-1]
     functions = re.search(r'functions=(\d+)', verdict)
     assumed = re.search(r'axioms=(\d+)', verdict)
     return {'functions': int(functions.group(1)), 'assumptions': int(assumed.group(1)) if assumed else 0, 'seconds': seconds,
@@ -73,7 +76,7 @@ def gate_line(folder):
         start = time.monotonic()
         said = subprocess.run(['.ci/run'], cwd=folder, stdout=subprocess.PIPE, stderr=subprocess.STDOUT, text=True).stdout
         minutes = (time.monotonic() - start) / 60
-        return f'The gate takes {minutes:.0f} minutes on two cores and ends in `{said.strip().splitlines()[-1]}`.'
+        return f'The gate takes {minutes:.0f} minutes on {os.cpu_count()} cores and ends in `{said.strip().splitlines()[-1]}`.'
     return kept('The gate takes') or 'The gate was not run for this paper.'
 
 
@@ -92,8 +95,7 @@ HEAD = '''# Figures
     python3 tools/figures.py --gate
 
 writes this paper. Lines are those that are neither blank nor comment: code (`src`), definitions (`specs`), laws (modules in `proofs`) and
-proofs (one file for each function; the six walks of `nizhalepu` are written by `tools/by_reference.py` and
-`tools/bring_forward.py`). Edits are the wrong boxes in
+proofs (`Invariants.antt` and `Answers.antt` in a folder for each function that has any). Edits are the wrong boxes in
 `must-fail`. Assumptions are contracts of C functions that the toolchain's libraries assume and the crate reaches. Seconds and megabytes
 are those of one `rt check` of the crate on one core, the crates below it proved already.
 
@@ -105,9 +107,9 @@ COLUMNS = ['code', 'definitions', 'laws', 'proofs', 'functions', 'edits', 'assum
 def main():
     with tempfile.TemporaryDirectory() as place:
         folder = os.path.join(place, 'repository')
-        shutil.copytree(ROOT, folder, ignore=shutil.ignore_patterns('target', '__pycache__'))
+        shutil.copytree(ROOT, folder, ignore=shutil.ignore_patterns('target', 'out', '__pycache__'))
         rows = {}
-        for crate in crates():
+        for crate in listed():
             rows[crate] = sizes(crate) | proved(crate, folder)
             print(crate, rows[crate], flush=True)
         gate = gate_line(folder)
@@ -126,8 +128,8 @@ def main():
         out.write(outside())
 
 
-KINDS = [('code', r'crates/\w+/src/'), ('definitions', r'crates/\w+/specs/'), ('laws', r'crates/\w+/proofs/(\w+/)*(?!Proof\.)\w+\.antt$'),
-         ('walks that `tools/by_reference.py` and `tools/bring_forward.py` write', r'crates/nizhalepu/proofs/nizhalepu_(?!duration|explain|plan)'), ('proofs of functions', r'crates/\w+/proofs/'),
+KINDS = [('code', r'crates/\w+/src/'), ('definitions', r'crates/\w+/specs/'), ('proofs of functions', r'crates/\w+/proofs/.+/(Invariants|Answers|Proof)\.antt$'),
+         ('laws', r'crates/\w+/proofs/'),
          ('edits', r'crates/\w+/must-fail/'), ('`model`, `independent`', r'(model|independent)/'), ('`host`, `run`', r'host/|run$'),
          ('`tools`', r'tools/'), ('papers', r'docs/|README'), ('other', r'')]
 
@@ -156,7 +158,7 @@ def since(revision):
 def outside():
     rows = [('`host`: header, programs and tests in C, shell and Python', ['host/*', 'host/tests/*.py', 'host/tests/*.sh', 'host/compare/*']),
             ('`independent`: the second box, reader and report, in C', ['independent/*']), ('`model`: the third reading, in Python', ['model/*.py']),
-            ('`tools` and `run`', ['tools/*', 'run'])]
+            ('`tools` and `run`', ['tools/*.py', 'tools/check', 'run'])]
     text = 'Outside Rattle, lines in all:\n\n| Folder | lines |\n|---|---:|\n'
     for name, patterns in rows:
         paths = [path for pattern in patterns for path in glob.glob(os.path.join(ROOT, pattern)) if os.path.isfile(path)]

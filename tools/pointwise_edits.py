@@ -14,7 +14,7 @@ from definition_edits import Edit, edits_of, kind_of
 
 # ---- what the arguments are
 
-WORD = re.compile(r"[A-Za-z_]\w*[′″]*")
+WORD = re.compile(r"[A-Za-z_]\w*'*")
 
 
 def split_at(text, word):
@@ -112,7 +112,7 @@ def number_for(chance, name, text, crate=''):
     """a number for an argument of this name; c is a character where characters are, and a loop counter elsewhere"""
     if name == 'c' and crate in ('wire', 'formats', 'texts'):
         return chance.choice(LETTERS)
-    own = [int(found, 0) for found in re.findall(r"(?<![\w.′\"])(0x[0-9A-F]+|\d+)(?![\w\"])", text)]
+    own = [int(found, 0) for found in re.findall(r"(?<![\w.'\"])(0x[0-9A-F]+|\d+)(?![\w\"])", text)]
     of_name = next((numbers for names, numbers in BY_NAME.items() if name in names.split()), OTHER)
     return chance.choice([n for n in own if n < 256] + of_name)
 
@@ -126,12 +126,12 @@ def tests(known, crate, variables, chance, text):
         elif type_ == 'ℕ':
             yield name, f'eqb {name} {n}'
         elif type_ == 'List ℕ':
-            yield name, f'eqb (getD {name} 0 0) {n}' if AREAS.fullmatch(name) else f'eqb (length {name}) {chance.choice(LENGTHS)}'
+            yield name, f'eqb (get_or {name} 0 0) {n}' if AREAS.fullmatch(name) else f'eqb (length {name}) {chance.choice(LENGTHS)}'
         elif type_ in known.fields:
             numbers = [field for field, part in known.fields[type_] if part == 'ℕ']
             if numbers:
                 field = chance.choice(numbers)
-                yield name, f'eqb ({name} .{field}) {number_for(chance, field, text)}'
+                yield name, f'eqb {name}.{field} {number_for(chance, field, text)}'
 
 
 def neighbour_of(result, variables, chance, text):
@@ -188,7 +188,7 @@ def in_place(old, name, other):
     mark, at = depth_zero(old[0], ('=',))
     if mark is None:
         return None
-    use = re.compile(rf"(?<![\w.·′\"]){re.escape(name)}(?![\w′″·\"]|\s*[=:←↦]|\.\s)")
+    use = re.compile(rf"(?<![\w.'◌\"]){re.escape(name)}(?![\w'◌\"]|\s*[=:←↦]|\.\s)")
     new = [old[0][:at + 1] + use.sub(other, old[0][at + 1:])] + [line if line.lstrip().startswith('--') else use.sub(other, line) for line in old[1:]]
     return new if new != old and not any(f'λ {name}' in line or f'let {name} ' in line for line in old) else None
 
@@ -211,10 +211,10 @@ def numbers_used(known, old, variables):
         if any(f'λ {name}' in line or f'let {name} ' in line for line in old):
             continue
         for k, line in enumerate(old):
-            for found in re.finditer(rf"(?<![\w.·′\"]){re.escape(name)}((?: \.\w+)*)(?![\w′″·\"]|\s*[=:←↦]|\.\s)", line):
+            for found in re.finditer(rf"(?<![\w.'◌\"]){re.escape(name)}((?:\.\w+)*)(?![\w'◌\"]|\s*[=:←↦]|\.\s)", line):
                 reached = type_
-                for field in found.group(1).split():
-                    reached = dict(known.fields.get(reached, [])).get(field[1:], '')
+                for field in found.group(1).split('.')[1:]:
+                    reached = dict(known.fields.get(reached, [])).get(field, '')
                 if reached == 'ℕ' and (k or found.start() > at) and not line.lstrip().startswith('--'):
                     yield k, found.start(), found.end(), found.group()
 
@@ -224,7 +224,7 @@ def pointwise(known, crate, path):
     source = open(path).read()
     lines, short = source.split('\n'), os.path.relpath(path, ROOT)
     for one in declarations(source):
-        if one.kind in ('abbrev', 'unfoldable') and '_' not in one.name:
+        if one.kind in ('abbrev', 'unfoldable') and '◌' not in one.name:
             for clause in one.clauses:
                 yield from at_points(known, crate, short, lines, one, clause)
 
@@ -253,9 +253,9 @@ def at_points(known, crate, short, lines, one, clause):
     if result == 'List ℕ':
         yield from edit('result so long', wrapped(old, 'let it : List ℕ = (', f') in if eqb (length it) {chance.choice(LENGTHS)} then {other} else it'))
     for k, start, end, used in numbers_used(known, old, variables):
-        bounds = {name: int(n, 0) for name, n in re.findall(r'\b(?:leb|ltb|eqb) \(?(\w+(?: \.\w+)*)\)? (0x[0-9A-F]+|\d+)', old[k])}
+        bounds = {name: int(n, 0) for name, n in re.findall(r'\b(?:leb|ltb|eqb) (\w+(?:\.\w+)*) (0x[0-9A-F]+|\d+)', old[k])}
         n = bounds[used] if used in bounds else number_for(chance, used.split('.')[-1], old[k], crate)
-        own, others = f'eqb ({used}) {n}', [test for name, test in found if name not in bounds and name != used and f'({used})' not in test]
+        own, others = f'eqb {used} {n}', [test for name, test in found if name not in bounds and name != used and f' {used} ' not in test]
         for test in [own] + ([f'{own} && {chance.choice(others)}', chance.choice(others)] if others else []):
             new = n + 1 if own in test else f'{used} + 1'
             yield from edit('one use', old[:k] + [f'{old[k][:start]}(if {test} then {new} else {used}){old[k][end:]}'] + old[k + 1:])
@@ -271,15 +271,15 @@ def at_points(known, crate, short, lines, one, clause):
 # ---- premises
 
 # the definitions that say of which calls a theorem of `demands` speaks
-PREMISES = ('Arrives', 'replacedBy', 'isReplaced', 'Unreplaced', 'isBroken', 'Unbroken', 'counts', 'unpaused', 'isPausing', 'isTouched',
-            'Untouched', 'isAnswered', 'isRead', 'hasRead', 'hasWritten', 'Unread', 'Unwritten', 'isLentProgram', 'isAccepted', 'HandsOn',
-            'AllHandOn', 'areOfBytes', 'lendsBytes', 'lendBytes', 'begins', 'noneBegins', 'Never', 'AllTaken', 'isTaken', 'isError')
+PREMISES = ('Arrives', 'replaced_by', 'is_replaced', 'Unreplaced', 'is_broken', 'Unbroken', 'counts', 'unpaused', 'is_pausing', 'is_touched', 'Untouched',
+            'is_answered', 'is_read', 'has_read', 'has_written', 'Unread', 'Unwritten', 'is_lent_program', 'is_accepted', 'HandsOn', 'AllHandOn',
+            'are_of_bytes', 'lends_bytes', 'lend_bytes', 'begins', 'none_begins', 'Never', 'AllTaken', 'is_taken', 'is_error')
 
 # something else that can be asked of a variable of such a type
-ASKED = {'Note': ['isTaken ({} .seen)', 'isPowerOn ({} .call)', 'isTick ({} .call)', 'isEmptying ({} .call)', 'isPress 2 ({} .call)'],
-         'Told': ['{} .paused', '{} .run .on', 'eqb ({} .ticks) 77'], 'Made': ['isPowerOn ({} .call)', 'isTick ({} .call)', 'isEmptying ({} .call)'],
+ASKED = {'Note': ['is_taken {}.seen', 'is_power_on {}.call', 'is_tick {}.call', 'is_emptying {}.call', 'is_press 2 {}.call'],
+         'Told': ['{}.paused', '{}.run.on', 'eqb {}.ticks 77'], 'Made': ['is_power_on {}.call', 'is_tick {}.call', 'is_emptying {}.call'],
          'ℕ': ['eqb {} 77', 'leb {} 199'], 'List ℕ': ['eqb (length {}) 10'], 'List Made': ['eqb (length {}) 3'], 'List Note': ['eqb (length {}) 3'],
-         'Areas': ['eqb (length ({} .log)) 33'], 'Seen': ['eqb ({} .refusal) 33', 'eqb ({} .written) 5']}
+         'Areas': ['eqb (length {}.log) 33'], 'Seen': ['eqb {}.refusal 33', 'eqb {}.written 5']}
 
 
 def premise_edits(known, crate, types, like):
@@ -360,7 +360,7 @@ def of_fields(crate, short, lines, one):
         head, _, type_ = lines[number - 1].partition(' : ')
         parts = split_at(type_, '→')
         news = [('condition dropped', parts[:k] + parts[k + 1:]) for k in range(len(parts) - 1)]
-        for more in ('isTick (m .call) ≡ true', 'isTick (m .call) ≡ false', 'isEmptying (m .call) ≡ false'):
+        for more in ('is_tick m.call ≡ true', 'is_tick m.call ≡ false', 'is_emptying m.call ≡ false'):
             news.append(('condition added', [more] + parts))
         if line.strip() and len(parts) > 1:
             for kind, new in news:

@@ -50,7 +50,13 @@ def declared(path):
 def module_files(crate, module):
     """the definitions' and the laws' file of that name, as far as they exist"""
     paths = [glob.glob(os.path.join(ROOT, 'crates', crate, kind, folder, module + '.antt')) for kind in ('specs', 'proofs') for folder in ('', '*')]
-    return [os.path.relpath(path, ROOT) for found in paths for path in found]
+    return [os.path.relpath(path, ROOT) for found in paths for path in found if not is_of_function(path)]
+
+
+def is_of_function(path):
+    """whether a file is part of a function's proof, crates/CRATE/proofs/FUNCTION/.., and no module of laws, which may have the same name"""
+    folders, name = os.path.split(path)
+    return name in ('Invariants.antt', 'Answers.antt', 'Proof.antt') and os.path.basename(folders) != 'proofs'
 
 
 def laws_file(crate, module):

@@ -4,6 +4,8 @@ toolchain's own port.py, and is kept so that the older text can be turned again 
 
 usage: tools/respell.py [FOLDER]      FOLDER: a checkout (default: the current folder)
 
+Which name got which is in respelled.tsv, beside this file. Where that is there it is taken; where not it is made, from the names that FOLDER declares.
+
 - A name that a file of specs/ or proofs/ declares and that has a dash or a capital inside, as `readLine` or `read-next`, gets underscores: `read_line`, `read_next`.
 - Where a lemma's name would meet that of a definition or of another lemma in one file, the lemma's gets `_lem` behind it.
 - The crate `log` is `boxlog`, since the library has a crate of the older name.
@@ -154,7 +156,11 @@ def with_crates(path, text):
 
 def main():
     top = sys.argv[1] if len(sys.argv) > 1 else "."
-    to = table(top)
+    known = os.path.join(os.path.dirname(os.path.realpath(__file__)), "respelled.tsv")
+    if os.path.exists(known):
+        to = dict(it.split("\t") for it in read(known).splitlines())
+    else:
+        to = table(top)
     for path in list(files(top, (".antt", ".rt"))):
         text = read(path)
         new = with_crates(path, turned(path, text, to))
@@ -168,9 +174,10 @@ def main():
         lines = [it if it.startswith("#") else re.sub(rf"\b{old}\b", new, it) for it in lines]
         with open(at, "w", encoding="utf-8") as f:
             f.write("\n".join(lines) + "\n")
-    with open(os.path.join(top, "tools", "respelled.tsv"), "w", encoding="utf-8") as f:
-        for old in sorted(to):
-            f.write(f"{old}\t{to[old]}\n")
+    if not os.path.exists(known):
+        with open(known, "w", encoding="utf-8") as f:
+            for old in sorted(to):
+                f.write(f"{old}\t{to[old]}\n")
 
 
 main()

@@ -45,13 +45,14 @@ from believed import WORDS as UNBELIEVED
 from crates import ROOT, listed
 from definition_edits import bringing, declared, edits_of, shown, unique
 from pointwise_edits import Known, pointwise, premise_edits
+from promises import is_of_function
 
 STATEMENTS = 'demands'
 # modules of it that take long to prove, on which no other stands: in the copy they are a crate of their own, `computed`
 # laws that hold the code to a definition, and no definition to anything: left out, so that an edit which only the code would notice survives
-OF_THE_CODE = {'channels': ('Differing', 'Switching', 'Walking', 'Ending', 'LastRead', 'Thin', 'Turns'), 'nizhalepu': ('ChannelRecords',)}
+OF_THE_CODE = {'channels': ('Differing', 'Switching', 'Walking', 'Ending', 'LastRead', 'Thin', 'Turns')}
 SLOW_GROUP, SLOW = 'Applies', ('Worked', 'Applied', 'PutToUse')
-OUTSIDE = {'io', 'os', 'libc', 'streams'}  # what stands on these is a program, or part of one
+OUTSIDE = {'io', 'streams'}  # what stands on these is a program, or part of one
 SORTS = ('plain', 'pointwise', 'premise')
 PLAN = '140,120,50'  # edits of each sort
 
@@ -61,7 +62,9 @@ def without_functions(text):
     """a source's types and constants alone; an item is a line at the margin and what is indented or closes under it"""
     kept, ahead, keeps = [], [], True
     for line in text.split('\n'):
-        if re.match(r'//|#\[', line):
+        if line == '#![tactic(auto)]':
+            kept.append(line)
+        elif re.match(r'//|#\[', line):
             ahead.append(line)
         elif re.match(r'[^\s{}()\[\]]', line):
             keeps = re.match(r'(pub )?(use|mod|struct|enum|type|const) ', line)
@@ -79,7 +82,9 @@ def defining(crates):
 
 
 def strip(crates, names, place):
-    shutil.rmtree(f'{place}/crates', ignore_errors=True)
+    for part in glob.glob(f'{place}/crates/*/*'):
+        if os.path.basename(part) != 'out':  # what an earlier run proved
+            shutil.rmtree(part)
     os.makedirs(place, exist_ok=True)
     with open(f'{place}/crates.txt', 'w') as out:
         out.writelines(f'{c}: {" ".join(crates[c])}\n' for c in names)
@@ -92,7 +97,7 @@ def strip(crates, names, place):
             with open(path) as source, open(to, 'w') as out:
                 out.write(without_functions(source.read()))
         for path in glob.glob(f'{own}/proofs/**/*.antt', recursive=True):
-            if os.path.basename(path)[:-len('.antt')] not in ('Proof', *OF_THE_CODE.get(crate, ())):
+            if not is_of_function(path) and os.path.basename(path)[:-len('.antt')] not in OF_THE_CODE.get(crate, ()):
                 to = copy + path[len(own):]
                 os.makedirs(os.path.dirname(to), exist_ok=True)
                 shutil.copy(path, to)
@@ -120,8 +125,7 @@ def set_apart(own, other):
     for name in SLOW:
         listed_ = listed_.replace(f'pub mod {name}\n', '')
         with open(f'{own}/proofs/{SLOW_GROUP}/{name}.antt') as source, open(f'{other}/proofs/{name}.antt', 'w') as out:
-            out.write(re.sub(rf'Rattle·{STATEMENTS}·(specs|proofs)\.', rf'Rattle·{STATEMENTS}.', re.sub(
-                rf'Rattle·{STATEMENTS}·proofs\.proofs\.{SLOW_GROUP}\.({"|".join(SLOW)})\b', r'Rattle·computed·proofs.proofs.\1', source.read())))
+            out.write(re.sub(rf'\bRattle\.{STATEMENTS}\.proofs\.{SLOW_GROUP}\.({"|".join(SLOW)})\b', r'Rattle.computed.proofs.\1', source.read()))
         os.remove(f'{own}/proofs/{SLOW_GROUP}/{name}.antt')
     with open(f'{own}/proofs/{SLOW_GROUP}.antt', 'w') as out:
         out.write(listed_)
@@ -133,8 +137,7 @@ def set_apart(own, other):
 
 def proved(place, crate):
     """whether the crate is proved, and what was said of it"""
-    done = subprocess.run(['rt', 'check', crate], cwd=place, stdout=subprocess.PIPE, stderr=subprocess.STDOUT, text=True,
-                          env=dict(os.environ, RT_JOBS='1'))
+    done = subprocess.run(['rt', 'check', '--jobs', '1'], cwd=f'{place}/crates/{crate}', stdout=subprocess.PIPE, stderr=subprocess.STDOUT, text=True)
     return done.returncode == 0, done.stdout
 
 
@@ -153,18 +156,13 @@ class Place:
     """a copy of the stripped tree, with what was proved of it kept aside so that an edit leaves no trace"""
 
     def __init__(self, folder, stripped):
-        self.folder, self.kept = folder, stripped + '/target'
+        self.folder, self.kept = folder, stripped
         shutil.copytree(stripped, folder)
 
     def restored(self, crate):
-        for part in (f'rlib/{crate}.rlib', f'stamp/{crate}'):
-            now, kept = f'{self.folder}/target/{part}', f'{self.kept}/{part}'
-            if os.path.isdir(now):
-                shutil.rmtree(now)
-            if os.path.isdir(kept):
-                shutil.copytree(kept, now)
-            else:
-                shutil.copy2(kept, now)
+        now = f'{self.folder}/crates/{crate}/out'
+        shutil.rmtree(now, ignore_errors=True)
+        shutil.copytree(f'{self.kept}/crates/{crate}/out', now)
 
     def tried(self, edit, order):
         """'survive', 'refused' or 'ill-typed', and the module that is not proved"""
@@ -173,7 +171,7 @@ class Place:
             text = source.read()
         lines = text.split('\n')
         first = next(k for k, line in enumerate(lines) if line.startswith('use '))
-        brought = bringing(text, edit.new, edit.crate)
+        brought = bringing(text, edit.new)
         lines[edit.line:edit.line + len(edit.old)] = edit.new
         lines[first:first] = brought
         with open(path, 'w') as out:
@@ -184,7 +182,7 @@ class Place:
             good, said = proved(self.folder, crate)
             if not good:
                 by = errors(said, crate)
-                verdict = 'ill-typed' if crate == edit.crate and f'crates/{crate}/specs/' in said else 'refused'
+                verdict = 'ill-typed' if crate == edit.crate and re.search(r'^\./specs/\S+: error: ', said, re.M) else 'refused'
                 break
         with open(path, 'w') as out:
             out.write(text)
@@ -195,8 +193,8 @@ class Place:
 
 def errors(said, crate):
     """the declarations that are not proved, but for those that only rest on such a one; at most three"""
-    found = re.findall(rf'crates/{crate}/\w+/(\S+)\.antt:\d+:\d+: error: (?:`(\S+)`: )?(?!.*was not admitted)', said)
-    names = list(dict.fromkeys(f'{crate}/{module}' + (f'.{name}' if name else '') for module, name in found))
+    found = re.findall(r'^\./\w+/(\S+)\.antt:\d+:\d+: error: (?!\d+ declarations? that depend)(?:`(\S+)`: )?', said, re.M)
+    names = list(dict.fromkeys(f'{crate}/{module.split("/")[-1]}' + (f'.{name}' if name else '') for module, name in found))
     return ', '.join(names[:3]) + (f' and {len(names) - 3} more' if len(names) > 3 else '') or crate
 
 

@@ -1,7 +1,7 @@
 // A box on standard output and standard input, or a file that an argument names: byte 1 is a tick, 2 and 3 are buttons 1 and 2, every other byte
 // goes to the wire, and the replies are gathered and go out before more input is waited for.
 // What each byte does, to the box, to every lent byte and to what is gathered, is in contracts, by specs/Inputs.antt; which bytes were read, and which
-// went out, is in none, since C's have none.
+// went out, is in none, since the library's have none.
 #![tactic(auto)]
 
 ghost use Rattle.std.specs.Prelude.{true, ◌≡◌, ◌≤◌, length};

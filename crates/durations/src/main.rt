@@ -1,6 +1,6 @@
 // The program durations of 02: programs of 1,600 bytes, one behind the other, from the files that its arguments name or from standard input; on
 // standard output how many ticks each takes, or why that is not told, and then the grand total, a line each. No more than one program is kept.
-// What is told of a program is in contracts, by specs/Telling.antt; which bytes were read, and which went out, is in none, since C's have none.
+// What is told of a program is in contracts, by specs/Telling.antt; which bytes were read, and which went out, is in none, since the library's have none.
 #![tactic(auto)]
 
 ghost use Rattle.streams.specs.Gathering.{Puts};

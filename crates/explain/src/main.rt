@@ -1,6 +1,6 @@
 // The program explain, for the report of 02, item 9: a stored program, from the file that its third argument names or from standard input, started
 // at the line of its first argument and followed for the ticks of its second; on standard output how it stops and why, in two lines.
-// What is told is in a contract, by specs/Telling.antt; which bytes were read, and which went out, is in none, since C's have none.
+// What is told is in a contract, by specs/Telling.antt; which bytes were read, and which went out, is in none, since the library's have none.
 #![tactic(auto)]
 
 use formats::Written;

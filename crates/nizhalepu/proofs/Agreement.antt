@@ -1,4 +1,4 @@
--- The calls by reference agree with the by_value ones, and keep the invariant in the record.
+-- The calls by reference agree with the by-value ones, and keep the invariant in the record.
 -- Assumes nothing.
 use mathlib.Core.Path.{◌≡◌, sym, ap, ◌∙◌}
 use Rattle.controller.specs.declared.Controller.{Controller}
@@ -13,13 +13,13 @@ use Rattle.calls.specs.Returns.{after}
 use Rattle.nizhalepu.specs.declared.Said.{Said}
 use Rattle.nizhalepu.specs.InRecord.{in_record}
 
--- A by_value call returned r and left the areas a; the call by reference, made with the same box and the same areas, said s and left
--- the box b in the record and the areas a'. Then the record holds the box that the by_value call returned, the numbers are the same,
+-- A by-value call returned r and left the areas a; the call by reference, made with the same box and the same areas, said s and left
+-- the box b in the record and the areas a'. Then the record holds the box that the by-value call returned, the numbers are the same,
 -- and so is every lent byte.
-module _ (k : Call) (c : Controller) (lent : Areas) (r : Returned) (a : Areas) (by_value : after r a ≡ call k c lent)
+module _ (k : Call) (c : Controller) (lent : Areas) (r : Returned) (a : Areas) (by-value : after r a ≡ call k c lent)
     (s : Said) (b : SwitchBox) (a' : Areas) (by-reference : in_record s b a' ≡ call k c lent) where
   same : in_record s b a' ≡ after r a
-  same = by-reference ∙ sym by_value
+  same = by-reference ∙ sym by-value
 
   pub same_box : b ≡ r.next
   same_box = ap (λ (x : After). record { controller = x.state }) same

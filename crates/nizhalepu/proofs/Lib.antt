@@ -1,5 +1,3 @@
-pub mod MachineValues
-pub mod ChannelRecords
 pub mod Agreement
 pub mod Durations
 pub mod Plans

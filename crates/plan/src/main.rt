@@ -1,6 +1,6 @@
 // The program plan of 02, item 10: an inclining plan as text, from the file that its argument names or from standard input; on standard output the
 // stored program that carries it out, or with --check its table. No more of the text is kept than its numbers.
-// What is told is in contracts, by specs/Telling.antt; which bytes were read, and which went out, is in none, since C's have none.
+// What is told is in contracts, by specs/Telling.antt; which bytes were read, and which went out, is in none, since the library's have none.
 #![tactic(auto)]
 
 ghost use Rattle.plantext.specs.Reading.{begin};

@@ -1,6 +1,6 @@
 // The program totals of 02, item 11: emptied logs, each in a file that an argument names, in the order of their emptying; on standard output for each
 // channel how often it closed and opened and for how many ticks it was closed, and then how many changes the logs lost. No more than one log is kept.
-// What is told is in contracts, by specs/Telling.antt; which bytes were read, and which went out, is in none, since C's have none.
+// What is told is in contracts, by specs/Telling.antt; which bytes were read, and which went out, is in none, since the library's have none.
 #![tactic(auto)]
 
 ghost use Rattle.std.specs.Prelude.{ℕ, ◌≡◌, length};

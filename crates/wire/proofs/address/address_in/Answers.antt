@@ -22,13 +22,6 @@ pub returns-then-third-eq68 : goal.returns-then-third-eq68
 unfolding address_in ◌>>=◌ ◌>>◌ ◌or_else◌
 returns-then-third-eq68 c = record { address = simp (ne_eqb _ _ c.if-third-eq73.false, eq-eqb _ _ c.if-third-eq68.true, le-leb _ _ c.if-next-lt2.false) }
 
--- OPEN slice-bounds-number-in-end
--- part-number-in-end : tie.Need-slice-bounds-number-in-end
--- part-number-in-end c =
---     let args = c.before.before.before.before.args in
---     let pre = c.before.before.before.before.requires in
---     five_long args.cs.now pre.1 c.before.if1.false c.if3.false
-
 pub returns-in_default : goal.returns-in_default
 unfolding address_in ◌>>=◌ ◌>>◌ ◌or_else◌
 returns-in_default c = record { address = simp (ne_eqb _ _ c.if-third-eq73.false, ne_eqb _ _ c.if-third-eq68.false, number_told 4 c.in_default.is (c.number_in.ensures.number 4)) }
