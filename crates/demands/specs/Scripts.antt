@@ -8,7 +8,7 @@ use Rattle.demands.specs.Walks.{◌⇒◌, lends, gives, powers}
 use Rattle.demands.specs.Applying.{Back, on_time, on_bad, goes_on, as_planned, mid_plan, First, Logs, Reads, Script}
 use Rattle.demands.specs.Applying.{back, running, unpausing, ending, start_shown, tick_shown, first_read, first_write, logging, listing, one_read, totalling}
 use Rattle.demands.specs.RefusedCalls.{others, ends}
-use Rattle.demands.specs.TotalScripts.{without_gap, over_aGap}
+use Rattle.demands.specs.TotalScripts.{without_gap, over_a_gap}
 use Rattle.demands.specs.RunScripts.{by_command, by_plan, by_long_plan, by_parameter, by_button, on_end_mark, on_bad_line, at_end_mark, end_mark_read, bad_line_read}
 
 -- ---- read-back
@@ -210,4 +210,4 @@ scripts =
 
 -- those of the switching totals: all that is lent is looked at byte by byte, so they are computed by themselves
 unfoldable pub total_scripts : List Script
-total_scripts = totalling without_gap ∷ totalling over_aGap ∷ []
+total_scripts = totalling without_gap ∷ totalling over_a_gap ∷ []

@@ -85,8 +85,8 @@ without_gap = record {
 }
 
 -- Two places: the first log keeps one change of three. From tick 1 on the gap's word counts: channel 2 is closed for two ticks, and no closing is counted.
-abbrev pub over_aGap : Totals
-over_aGap = record {
+abbrev pub over_a_gap : Totals
+over_a_gap = record {
   before = [];
   room = 32;
   parts =

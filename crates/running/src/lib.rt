@@ -221,6 +221,8 @@ impl Run {
     }
 
     // Lines are run until one is held or ends the program, at most 400 of them For or Next.
+    // Put into its callers, so that a tick keeps under its limit of stack.
+    #[inline(always)]
     fn run_due(self, p: &[u8]) -> Ran
         requires { IsProgram p.now × (self.on ≡ true) × (RunInvariant self) }
         ensures ran { result ≡ run_due p.now 400 0 self }

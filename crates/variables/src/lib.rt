@@ -125,6 +125,8 @@ fn single_line(single: &[u8; 8]) -> Line
 }
 
 // The line at 000-200.
+// Put into its callers, so that a byte keeps under its limit of stack.
+#[inline(always)]
 pub fn line_of(panel: Panel, program: &[u8], k: u8) -> Line
     requires { IsProgram program.now × (k ≤ 200) }
     ensures line { result ≡ line_of panel program.now k }
