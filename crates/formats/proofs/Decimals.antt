@@ -14,8 +14,8 @@ use lib.Dec.{ltb}
 use borrow.Author.Tests.{lt-ltb, le-ltb, ltb-true, ltb-false, eq-eqb, ne_eqb}
 use Rattle.formats.specs.Checks.{refused, passed, ◌>>=◌, ◌>>◌, ◌or_else◌, text}
 use Rattle.formats.specs.Digits.{digit_value, number_in, shown, width, most_digits, decimal, decimal_in}
-use Rattle.formats.specs.declared.Written.TheVariants.{Is as IsWritten, No as NotWritten}
-use Rattle.formats.specs.Numbers.{most_written, written_or}
+use Rattle.std.specs.Prelude.{Some, None}
+use Rattle.formats.specs.Numbers.{most_written, res_or}
 use Rattle.formats.specs.Worth.{digit_worth, worth, are_digits, ReadAs, is_plain, in_decimal, in_hex}
 use Rattle.formats.proofs.Checks.{if_case, both_true}
 use Rattle.formats.proofs.Characters.{length_shown}
@@ -190,17 +190,17 @@ module _ (cs : List ℕ) (i v d : ℕ) (lt : i < length cs) (k : Kept cs i v) (i
   }
 
   -- it is no digit
-  pub kept_bad : 10 ≤ d → (e : ℕ) → written_or e NotWritten ≡ decimal_in most_written e cs
+  pub kept_bad : 10 ≤ d → (e : ℕ) → res_or e None ≡ decimal_in most_written e cs
   unfolding decimal_in ◌>>◌ ◌>>=◌ ◌or_else◌
   kept_bad le e = rw (ne_eqb (length cs) 0 (λ z. omega arith), ← read_bad 10 cs i k.whole d lt k.read is le e)
 
 -- no character is no number
-pub none_written : (cs : List ℕ) → length cs ≡ 0 → (e : ℕ) → written_or e NotWritten ≡ decimal_in most_written e cs
+pub none_written : (cs : List ℕ) → length cs ≡ 0 → (e : ℕ) → res_or e None ≡ decimal_in most_written e cs
 unfolding decimal_in ◌>>◌ ◌>>=◌ ◌or_else◌
 none_written cs z e = rw (eq-eqb (length cs) 0 z)
 
 -- all are read
-pub kept_all : (cs : List ℕ) (i v : ℕ) → length cs ≤ i → length cs ≢ 0 → Kept cs i v → (e : ℕ) → written_or e (IsWritten v) ≡ decimal_in most_written e cs
+pub kept_all : (cs : List ℕ) (i v : ℕ) → length cs ≤ i → length cs ≢ 0 → Kept cs i v → (e : ℕ) → res_or e (Some v) ≡ decimal_in most_written e cs
 unfolding decimal_in ◌>>◌ ◌>>=◌ ◌or_else◌
 kept_all cs i v le any k e = rw (ne_eqb (length cs) 0 any, ← read_all 10 cs i k.whole le k.read e, k.capped)
 

@@ -12,8 +12,8 @@ use lib.Seq.{take-suc, take_all, length-take-le}
 use borrow.Author.Tests.{lt-ltb, le-ltb}
 use Rattle.formats.specs.Checks.{◌>>◌, ◌or_else◌, all}
 use Rattle.formats.specs.Digits.{number_after, number, digit_value, is_digit, number_in}
-use Rattle.formats.specs.declared.Number.TheVariants.{Is, No}
-use Rattle.formats.specs.Numbers.{number_or}
+use Rattle.std.specs.Prelude.{Some, None}
+use Rattle.formats.specs.Numbers.{res_or}
 use Rattle.formats.proofs.Checks.{all_snoc}
 use Rattle.formats.proofs.Digits.{number_snoc, number_below}
 use Rattle.formats.proofs.Characters.{all_values}
@@ -44,7 +44,7 @@ read_none base cs = record { digits = refl; value = refl }
 -- the next character has the value d
 module _ (base : ℕ) (cs : List ℕ) (i v d : ℕ) (lt : i < length cs) (r : Read base cs i v) (is : d ≡ digit_value (get_or cs i 0)) where
   -- it is no digit
-  pub read_bad : base ≤ d → (e : ℕ) → number_or e No ≡ number_in base e cs
+  pub read_bad : base ≤ d → (e : ℕ) → res_or e None ≡ number_in base e cs
   unfolding number_in ◌>>◌ ◌or_else◌
   read_bad le e = rw (not_all (is_digit base) cs i lt (le-ltb (digit_value (get_or cs i 0)) base (rw is at le)))
 
@@ -72,7 +72,7 @@ read_fits_u32 base cs i v le two eight inside r =
     let fits : number base (map digit_value (take i cs)) < base ^ i = rw len at below in
     omega (arith, r.value)
 
-pub read_all : (base : ℕ) (cs : List ℕ) (i v : ℕ) → length cs ≤ i → Read base cs i v → (e : ℕ) → number_or e (Is v) ≡ number_in base e cs
+pub read_all : (base : ℕ) (cs : List ℕ) (i v : ℕ) → length cs ≤ i → Read base cs i v → (e : ℕ) → res_or e (Some v) ≡ number_in base e cs
 unfolding number_in ◌>>◌ ◌or_else◌
 read_all base cs i v le r e =
     let whole : take i cs ≡ cs = take_all i cs le in

@@ -1,28 +1,23 @@
 -- Nobody has to believe this: it says how the code goes, and no theorem speaks of it.
--- The answers of the readers of a number: what each stands for.
-use Rattle.std.specs.Prelude.{ℕ}
+-- What the code answers, as the answer of a chain of checks: a Result with its error by number, or an Option with the error that it stands for.
+use Rattle.std.specs.Prelude.{ℕ, ◌≡◌, Option, Some, None, Result, Ok, Err}
+use Rattle.std.proofs.Common.{sym, ap, ◌∙◌}
 use Rattle.formats.specs.Checks.{Res, refused, passed}
-use Rattle.formats.specs.declared.Number.{Number}
-use Rattle.formats.specs.declared.Number.TheVariants.{Is, No}
-use Rattle.formats.specs.declared.Written.{Written}
-use Rattle.formats.specs.declared.Written.TheVariants.{Is as IsWritten, No as NotWritten}
-use Rattle.formats.specs.declared.Byte.{Byte}
-use Rattle.formats.specs.declared.Byte.TheVariants.{Is as IsByte, Error}
 
--- The number that was read, or the error e where none was. Which number e is depends on what was to be read, so whoever asks says it:
--- E004 for an address, E003 for data.
-abbrev pub number_or : ℕ → Number → Res ℕ
-number_or e No = refused e
-number_or e (Is v) = passed v
+-- the numbers of a kind of errors are `number`
+abbrev pub res_of : {A E : Type 0} → (E → ℕ) → Result A E → Res A
+res_of number (Ok a) = passed a
+res_of number (Err e) = refused (number e)
+
+-- what is read back from its number has a number of its own
+pub read_back : {E : Type 0} (number : E → ℕ) (of : ℕ → E) → ((e : E) → of (number e) ≡ e) → (a b : E) → number a ≡ number b → a ≡ b
+read_back number of back a b same = sym (back a) ∙ ap of same ∙ back b
+
+-- Which error a None stands for depends on what was asked for, so whoever asks says it: E004 for an address, E003 for data.
+abbrev pub res_or : {A : Type 0} → ℕ → Option A → Res A
+res_or e None = refused e
+res_or e (Some a) = passed a
 
 -- the largest number of eight bytes
 abbrev pub most_written : ℕ
 most_written = 18446744073709551615
-
-abbrev pub written_or : ℕ → Written → Res ℕ
-written_or e NotWritten = refused e
-written_or e (IsWritten v) = passed v
-
-abbrev pub byte_of : Res ℕ → Byte
-byte_of (refused e) = Error e
-byte_of (passed v) = IsByte v

@@ -5,30 +5,57 @@
 #![tactic(auto)]
 
 ghost use Rattle.std.specs.Prelude.{◌≡◌, [], ◌∷◌, ◌++◌, ℕ, ◌+◌, ◌*◌, ◌≤◌, ◌<◌, min, length, take, drop};
+ghost use Rattle.formats.specs.Errors.{number_of as number_of_error, distinct as distinct_errors};
 ghost use Rattle.formats.specs.Digits.{number, digit_value, digit_char, shown, number_in, h_in, d_in, width, most_digits, decimal, decimal_in, error_text};
 ghost use Rattle.formats.specs.Bytes.{bytes};
-ghost use Rattle.formats.specs.Numbers.{number_or, most_written, written_or, byte_of};
+ghost use Rattle.formats.specs.Numbers.{res_of, res_or, most_written};
 ghost use Rattle.formats.specs.Writing.{Wrote};
 
-// What characters stand for: a number, or none, which has its error's number from who asked.
-#[derive(Clone, Copy)]
-pub enum Number {
-    Is(u32),
-    No,
+// ---- errors and refusals
+
+// An error or a refusal is told by its number, and no other of its kind has that one.
+pub trait Numbered {
+    ghost number_of: { Self → ℕ };
+
+    fn number(self) -> u8
+        ensures { result ≡ number_of self };
+
+    ghost distinct: { (a b : Self) → number_of a ≡ number_of b → a ≡ b };
 }
 
-// What a person wrote: a number, of which the largest stands for itself and every larger one; or no number.
-#[derive(Clone, Copy)]
-pub enum Written {
-    Is(u64),
-    No,
+// The errors of the wire. "Errors are E and three digits."
+#[derive(Clone, Copy, Debug, PartialEq, Eq)]
+pub enum Error {
+    // fewer than three characters
+    TooShort = 1,
+    // no command by its first letters or its length: characters are left over or missing
+    Malformed = 2,
+    // data that are not in their format
+    NotInFormat = 3,
+    // no address, or one that cannot be written
+    NoAddress = 4,
+    // not to be written while a program runs or is paused
+    NotNow = 5,
+    // a special command that a running or paused program forbids
+    NotStopped = 20,
+    // to continue, where nothing is paused
+    NotPaused = 21,
+    // to pause, where no program runs
+    NotRunning = 22,
+    // a parameter that a special command does not reach
+    OutOfReach = 23,
+    // a Bad line, which cannot be read
+    BadLine = 24,
 }
 
-// What the data of a write stand for: a byte, or the number of the error.
-#[derive(Clone, Copy)]
-pub enum Byte {
-    Is(u8),
-    Error(u8),
+impl Numbered for Error {
+    ghost number_of = { number_of_error };
+
+    fn number(self) -> u8 {
+        self as u8
+    }
+
+    ghost distinct = { distinct_errors };
 }
 
 // ---- bytes
@@ -37,14 +64,14 @@ pub enum Byte {
 pub fn number_of_two(a: u8, b: u8) -> u16
     ensures number { result ≡ number 256 (a ∷ b ∷ []) }
 {
-    (a as u16) * 256 + (b as u16)
+    u16::from_be_bytes([a, b])
 }
 
 // Four bytes as a number, high byte first.
 pub fn number_of_four(a: u8, b: u8, c: u8, d: u8) -> u32
     ensures number { result ≡ number 256 (a ∷ b ∷ c ∷ d ∷ []) }
 {
-    (((a as u32) * 256 + (b as u32)) * 256 + (c as u32)) * 256 + (d as u32)
+    u32::from_be_bytes([a, b, c, d])
 }
 
 // A number in two bytes, high byte first.
@@ -71,11 +98,7 @@ pub fn copy(from: &[u8], to: &mut [u8], n: usize)
     requires { (n ≤ length from.now) × (n ≤ length to.old) }
     ensures copied { to.new ≡ take n from.now ++ drop n to.old }
 {
-    let mut i: usize = 0;
-    while i < n {
-        to[i] = from[i];
-        i += 1;
-    }
+    to[..n].copy_from_slice(&from[..n]);
 }
 
 // ---- characters
@@ -84,19 +107,11 @@ pub fn copy(from: &[u8], to: &mut [u8], n: usize)
 pub fn digit_value(c: u8) -> u8
     ensures value { result ≡ digit_value c }
 {
-    if c < b'0' {
-        return 16;
+    match c {
+        b'0'..=b'9' => c - b'0',
+        b'A'..=b'F' => c - b'A' + 10,
+        _ => 16,
     }
-    if c <= b'9' {
-        return c - b'0';
-    }
-    if c < b'A' {
-        return 16;
-    }
-    if c <= b'F' {
-        return c - b'A' + 10;
-    }
-    16
 }
 
 // The character of a digit.
@@ -104,57 +119,48 @@ pub fn digit_char(v: u8) -> u8
     requires { v < 16 }
     ensures character { result ≡ digit_char v }
 {
-    if v < 10 {
-        return b'0' + v;
-    }
-    b'A' + (v - 10)
+    if v < 10 { b'0' + v } else { b'A' + (v - 10) }
 }
 
 // The number that the characters are to a base, at most eight of them.
-pub fn number_in(cs: &[u8], base: u32) -> Number
+pub fn number_in(cs: &[u8], base: u32) -> Option<u32>
     requires { (length cs.now ≤ 8) × (2 ≤ base) × (base ≤ 16) }
-    ensures number { (e : ℕ) → number_or e result ≡ number_in base e cs.now }
+    ensures number { (e : ℕ) → res_or e result ≡ number_in base e cs.now }
 {
     let mut v: u32 = 0;
-    let mut i: usize = 0;
-    while i < cs.len() {
-        let d = digit_value(cs[i]) as u32;
+    for c in cs {
+        let d = digit_value(*c) as u32;
         if base <= d {
-            return Number::No;
+            return None;
         }
         v = v * base + d;
-        i += 1;
     }
-    Number::Is(v)
+    Some(v)
 }
 
 // The format h: two hex digits. E002 for another number of characters, E003 for others than digits.
-pub fn h_in(cs: &[u8]) -> Byte
-    ensures h { result ≡ byte_of (h_in cs.now) }
+pub fn h_in(cs: &[u8]) -> Result<u8, Error>
+    ensures h { res_of number_of_error result ≡ h_in cs.now }
 {
     if cs.len() != 2 {
-        return Byte::Error(2);
+        return Err(Error::Malformed);
     }
-    let Number::Is(v) = number_in(cs, 16) else {
-        return Byte::Error(3);
-    };
-    Byte::Is((v % 256) as u8)
+    let v = number_in(cs, 16).ok_or(Error::NotInFormat)?;
+    Ok((v % 256) as u8)
 }
 
 // The format d: three decimal digits to 255. E002 for another number of characters, E003 for others than digits and above 255.
-pub fn d_in(cs: &[u8]) -> Byte
-    ensures d { result ≡ byte_of (d_in cs.now) }
+pub fn d_in(cs: &[u8]) -> Result<u8, Error>
+    ensures d { res_of number_of_error result ≡ d_in cs.now }
 {
     if cs.len() != 3 {
-        return Byte::Error(2);
+        return Err(Error::Malformed);
     }
-    let Number::Is(v) = number_in(cs, 10) else {
-        return Byte::Error(3);
-    };
+    let v = number_in(cs, 10).ok_or(Error::NotInFormat)?;
     if 255 < v {
-        return Byte::Error(3);
+        return Err(Error::NotInFormat);
     }
-    Byte::Is(v as u8)
+    Ok(v as u8)
 }
 
 // A number with one decimal digit more behind it, or the largest where that is more.
@@ -169,23 +175,21 @@ fn with_digit(v: u64, d: u64) -> u64
 }
 
 // A number as a person writes it, in decimal digits, one or more and as many as there are.
-pub fn decimal_in(cs: &[u8]) -> Written
-    ensures number { (e : ℕ) → written_or e result ≡ decimal_in most_written e cs.now }
+pub fn decimal_in(cs: &[u8]) -> Option<u64>
+    ensures number { (e : ℕ) → res_or e result ≡ decimal_in most_written e cs.now }
 {
-    if cs.len() == 0 {
-        return Written::No;
+    if cs.is_empty() {
+        return None;
     }
     let mut v: u64 = 0;
-    let mut i: usize = 0;
-    while i < cs.len() {
-        let d = digit_value(cs[i]) as u64;
+    for c in cs {
+        let d = digit_value(*c) as u64;
         if 10 <= d {
-            return Written::No;
+            return None;
         }
         v = with_digit(v, d);
-        i += 1;
     }
-    Written::Is(v)
+    Some(v)
 }
 
 // How many decimal digits a number has.
@@ -195,7 +199,7 @@ fn width(v: u64) -> usize
     let mut n: usize = 1;
     let mut rest = v;
     while 10 <= rest {
-        rest = rest / 10;
+        rest /= 10;
         n += 1;
     }
     n
@@ -220,12 +224,10 @@ pub fn put_digits(area: &mut [u8], at: usize, base: u64, n: usize, v: u64) -> us
     ensures wrote { Wrote at (shown base n v) area.old result area.new }
     ensures near { result ≡ at + n }
 {
-    let mut i = n;
     let mut rest = v;
-    while i > 0 {
-        i -= 1;
+    for i in (0..n).rev() {
         area[at + i] = digit_char((rest % base) as u8);
-        rest = rest / base;
+        rest /= base;
     }
     at + n
 }
@@ -241,11 +243,11 @@ pub fn put_decimal(area: &mut [u8], at: usize, v: u64) -> usize
 }
 
 // E and the number of an error or a refusal in three digits.
-pub fn put_error(area: &mut [u8], at: usize, e: u8) -> usize
+pub fn put_error<E: Numbered>(area: &mut [u8], at: usize, e: E) -> usize
     requires { at + 4 ≤ length area.old }
-    ensures wrote { Wrote at (error_text e) area.old result area.new }
+    ensures wrote { Wrote at (error_text (E.number_of e)) area.old result area.new }
     ensures near { result ≡ at + 4 }
 {
     let next = put_char(area, at, b'E');
-    put_digits(area, next, 10, 3, e as u64)
+    put_digits(area, next, 10, 3, e.number() as u64)
 }

@@ -8,8 +8,8 @@ use Rattle.formats.proofs.put_error.Goals as goal
 
 pub returns : goal.returns
 unfolding error_text text
-returns c =
+returns g c =
     record {
-      wrote = wrote_more c.put_char-next.ensures.wrote (search rules) c.put_digits.ensures.wrote;
+      wrote = wrote_more c.put_char-next.ensures.wrote (search rules) (rw c.number.ensures at c.put_digits.ensures.wrote);
       near = search rules;
     }
