@@ -1,12 +1,12 @@
 -- Laws that turn the answer of a reading function into what its definition says.
 -- Assumes nothing.
-use mathlib.Core.Path.{◌≡◌, refl, sym, ap, ◌∙◌}
+use mathlib.Core.Path.{◌≡◌, sym, ap, ◌∙◌}
 use Prim.Native.Nat.{ℕ, ◌^◌, ◌<◌}
 use mathlib.Core.List.{List}
 use lib.ListN.{length}
 use Rattle.std.specs.Prelude.{Option}
 use Rattle.formats.specs.Numbers.{res_or}
-use Rattle.formats.specs.Checks.{Res, refused, passed}
+use Rattle.formats.specs.Checks.{Res, passed}
 use Rattle.formats.specs.Digits.{number_in}
 use Rattle.formats.proofs.Checks.{ok_at}
 use Rattle.formats.proofs.Characters.{read_fits}

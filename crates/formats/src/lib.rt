@@ -78,19 +78,14 @@ pub fn number_of_four(a: u8, b: u8, c: u8, d: u8) -> u32
 pub fn two_bytes(v: u16) -> [u8; 2]
     ensures bytes { result ≡ bytes 2 v }
 {
-    [(v / 256 % 256) as u8, (v % 256) as u8]
+    v.to_be_bytes()
 }
 
 // A number in four bytes, high byte first.
 pub fn four_bytes(v: u32) -> [u8; 4]
     ensures bytes { result ≡ bytes 4 v }
 {
-    [
-        (v / 256 / 256 / 256 % 256) as u8,
-        (v / 256 / 256 % 256) as u8,
-        (v / 256 % 256) as u8,
-        (v % 256) as u8,
-    ]
+    v.to_be_bytes()
 }
 
 // The first n bytes of `to` become those of `from`, and the rest of `to` stays.
@@ -163,17 +158,6 @@ pub fn d_in(cs: &[u8]) -> Result<u8, Error>
     Ok(v as u8)
 }
 
-// A number with one decimal digit more behind it, or the largest where that is more.
-fn with_digit(v: u64, d: u64) -> u64
-    requires { d < 10 }
-    ensures number { result ≡ min (v * 10 + d) most_written }
-{
-    if (u64::MAX - d) / 10 < v {
-        return u64::MAX;
-    }
-    v * 10 + d
-}
-
 // A number as a person writes it, in decimal digits, one or more and as many as there are.
 pub fn decimal_in(cs: &[u8]) -> Option<u64>
     ensures number { (e : ℕ) → res_or e result ≡ decimal_in most_written e cs.now }
@@ -187,7 +171,8 @@ pub fn decimal_in(cs: &[u8]) -> Option<u64>
         if 10 <= d {
             return None;
         }
-        v = with_digit(v, d);
+        // the largest stands for every larger number
+        v = v.saturating_mul(10).saturating_add(d);
     }
     Some(v)
 }

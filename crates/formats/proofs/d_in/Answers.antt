@@ -1,6 +1,6 @@
 -- `formats::d_in` meets its contract.
 -- Assumes nothing.
-use Rattle.std.proofs.Common.{◌≡◌, ap, sym, ◌∙◌, None, Some, arith}
+use Rattle.std.proofs.Common.{◌≡◌, None, Some, arith}
 use Rattle.std.proofs.lemmas.Result.{err_from_is_err_and}
 use borrow.Author.Tests.{eq-eqb, ne_eqb, le-leb, lt-leb}
 use Rattle.formats.specs.Checks.{refused, passed, ◌>>=◌, ◌>>◌, ◌or_else◌}

@@ -1,5 +1,6 @@
 -- `formats::decimal_in` meets its contract: after so many characters the number kept is theirs, or the largest.
 -- Assumes nothing.
+use native.Mathlib.Omega.{arith}
 use borrow.Author.Rules.{rules}
 use Rattle.formats.proofs.Decimals.{kept_none, kept_more, kept_bad, none_written, kept_all}
 use Rattle.formats.proofs.decimal_in.Goals as goal
@@ -16,7 +17,7 @@ returns-then-d-ge10 c = record { number = kept_bad _ _ _ _ c.loop-c-test.true c.
 pub loop-c-preserved : goal.loop-c-preserved
 loop-c-preserved c =
     kept_more _ _ _ _ c.loop-c-test.true c.loop-c.invariant c.digit_value-d.ensures.value c.if-d-ge10.false
-    c.with_digit-v.ensures.number
+    (omega (arith, c.saturating_add-v.ensures, c.saturating_mul.ensures))
 
 pub returns : goal.returns
 returns c = record { number = kept_all _ _ _ (search rules) (search rules) c.loop-c.invariant }

@@ -1,14 +1,13 @@
 -- `formats::h_in` meets its contract.
 -- Assumes nothing.
-use Rattle.std.proofs.Common.{◌≡◌, ap, sym, ◌∙◌, None, Some, Err, arith}
+use Rattle.std.proofs.Common.{◌≡◌, None, Some, arith}
 use Rattle.std.proofs.lemmas.Result.{err_from_is_err_and}
 use borrow.Author.Tests.{eq-eqb, ne_eqb}
-use Rattle.formats.specs.Checks.{Res, refused, passed, ◌>>◌, ◌or_else◌}
-use Prim.Native.Nat.{ℕ, ◌^◌, ◌<◌}
+use Rattle.formats.specs.Checks.{refused, passed, ◌>>◌, ◌or_else◌}
+use Prim.Native.Nat.{◌^◌, ◌<◌}
 use native.Mathlib.Nat.{mod-eq_of_lt}
 use Rattle.formats.specs.Digits.{number_in, h_in}
 use Rattle.formats.specs.declared.Error.TheVariants.{NotInFormat}
-use Rattle.formats.specs.Errors.{number_of}
 use Rattle.formats.proofs.NumbersRead.{number_told, number_fits}
 use Rattle.formats.proofs.h_in.Goals as goal
 
