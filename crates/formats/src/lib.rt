@@ -165,16 +165,16 @@ pub fn decimal_in(cs: &[u8]) -> Option<u64>
     if cs.is_empty() {
         return None;
     }
-    let mut v: u64 = 0;
+    let mut worth: u64 = 0;
     for c in cs {
         let d = digit_value(*c) as u64;
         if 10 <= d {
             return None;
         }
         // the largest stands for every larger number
-        v = v.saturating_mul(10).saturating_add(d);
+        worth = worth.saturating_mul(10).saturating_add(d);
     }
-    Some(v)
+    Some(worth)
 }
 
 // How many decimal digits a number has.

@@ -17,7 +17,7 @@ returns-then-d-ge10 c = record { number = kept_bad _ _ _ _ c.loop-c-test.true c.
 pub loop-c-preserved : goal.loop-c-preserved
 loop-c-preserved c =
     kept_more _ _ _ _ c.loop-c-test.true c.loop-c.invariant c.digit_value-d.ensures.value c.if-d-ge10.false
-    (omega (arith, c.saturating_add-v.ensures, c.saturating_mul.ensures))
+    (omega (arith, c.saturating_add-worth.ensures, c.saturating_mul.ensures))
 
 pub returns : goal.returns
 returns c = record { number = kept_all _ _ _ (search rules) (search rules) c.loop-c.invariant }

@@ -4,4 +4,4 @@ use Rattle.formats.proofs.Decimals.{Kept}
 use Rattle.formats.proofs.decimal_in.Given as goal
 
 abbrev pub invariant-loop-c : goal.invariant-loop-c
-invariant-loop-c l = Kept l.cs l.c-index l.v
+invariant-loop-c l = Kept l.cs l.c-index l.worth
