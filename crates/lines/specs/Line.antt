@@ -1,7 +1,7 @@
 -- Eight bytes as a line, and a line as eight bytes.
 -- 01, 'Variables': "A line is 8 bytes. [...] Times and counts are at most 9999." 02, item 4: "Reading eight bytes now answers State, For, Next or Bad".
 use Rattle.std.specs.Prelude.{ℕ, ◌^◌, ◌≤◌, ◌<◌, Bool, true, false, ◌&&◌, List, ◌∷◌, ◌++◌, get_or, replicate, leb, eqb}
-use Rattle.std.specs.Prelude.{if◌then◌else◌}
+use Rattle.std.specs.Prelude.{if◌then◌else◌, Option, Some, None}
 use Rattle.formats.specs.Bytes.{field, bytes}
 use Rattle.lines.specs.declared.Line.{Line}
 use Rattle.lines.specs.declared.Line.TheVariants.{State, For, Next, Bad}
@@ -74,6 +74,19 @@ counter_of (State outputs time) = 0
 counter_of (For counter count) = counter
 counter_of (Next counter) = counter
 counter_of Bad = 0
+
+-- the same, if there is one: the code answers so
+abbrev pub for_counter_in : Line → Option ℕ
+for_counter_in (State outputs time) = None
+for_counter_in (For counter count) = Some counter
+for_counter_in (Next counter) = None
+for_counter_in Bad = None
+
+abbrev pub counter_in : Line → Option ℕ
+counter_in (State outputs time) = None
+counter_in (For counter count) = Some counter
+counter_in (Next counter) = Some counter
+counter_in Bad = None
 
 -- the count of a For, 0 of any other line
 abbrev pub count_of : Line → ℕ

@@ -2,14 +2,15 @@
 // 01, 'Variables': "A line is 8 bytes."
 #![tactic(auto)]
 
-ghost use Rattle.std.specs.Prelude.{◌≡◌, ◌&&◌, ◌+◌, ◌*◌, ◌≤◌, ◌<◌, length, eqb, leb};
+ghost use Rattle.std.specs.Prelude.{◌≡◌, ◌&&◌, ◌+◌, ◌*◌, ◌≤◌, ◌<◌, length, eqb, leb, IfSome};
+ghost use Rattle.std.specs.Option.{unwrap_or};
 ghost use Rattle.std.specs.Prelude.{if◌then◌else◌};
 ghost use Rattle.lines.specs.declared.Line.TheVariants.{State, For, Next, Bad};
-ghost use Rattle.lines.specs.Line.{end_mark, is_counter, is_end, is_bad, for_counter, counter_of, read_line, bytes_of};
+ghost use Rattle.lines.specs.Line.{end_mark, is_counter, is_end, is_bad, for_counter_in, counter_in, read_line, bytes_of};
 ghost use Rattle.lines.specs.Program.{IsProgram, line_at, put_line, is_next_of, next_after};
 ghost use Rattle.lines.specs.Loops.{end_line};
 
-#[derive(Clone, Copy)]
+#[derive(Clone, Copy, Debug, PartialEq, Eq)]
 pub enum Line {
     State { outputs: u32, time: u16 },
     For { counter: u8, count: u16 },
@@ -27,55 +28,40 @@ pub const PROGRAM: usize = 1600;
 fn is_counter(c: u8) -> bool
     ensures test { result ≡ is_counter c }
 {
-    if c < 1 {
-        return false;
-    }
-    c <= 4
+    1 <= c && c <= 4
 }
 
 // The line of eight bytes that begin with 53, by the byte after it and the numbers in the other six.
 fn state_line(second: u8, outputs: u32, time: u16) -> Line
     ensures line { result ≡ (if eqb second 0 && leb time 9999 then State outputs time else Bad) }
 {
-    if second != 0 {
-        return Line::Bad;
+    if second == 0 && time <= 9999 {
+        Line::State { outputs, time }
+    } else {
+        Line::Bad
     }
-    if 9999 < time {
-        return Line::Bad;
-    }
-    Line::State { outputs, time }
 }
 
 // The line of eight bytes that begin with 46, by the counter, the count and the number in the last four bytes.
 fn for_line(counter: u8, count: u16, rest: u32) -> Line
     ensures line { result ≡ (if is_counter counter && leb count 9999 && eqb rest 0 then For counter count else Bad) }
 {
-    if !is_counter(counter) {
-        return Line::Bad;
+    if is_counter(counter) && count <= 9999 && rest == 0 {
+        Line::For { counter, count }
+    } else {
+        Line::Bad
     }
-    if 9999 < count {
-        return Line::Bad;
-    }
-    if rest != 0 {
-        return Line::Bad;
-    }
-    Line::For { counter, count }
 }
 
 // The line of eight bytes that begin with 4E, by the counter and the numbers in the two bytes and the four after it.
 fn next_line(counter: u8, high: u16, low: u32) -> Line
     ensures line { result ≡ (if is_counter counter && eqb (high * 4294967296 + low) 0 then Next counter else Bad) }
 {
-    if !is_counter(counter) {
-        return Line::Bad;
+    if is_counter(counter) && high == 0 && low == 0 {
+        Line::Next { counter }
+    } else {
+        Line::Bad
     }
-    if high != 0 {
-        return Line::Bad;
-    }
-    if low != 0 {
-        return Line::Bad;
-    }
-    Line::Next { counter }
 }
 
 // The line that the first eight bytes say; Bad where they say none.
@@ -83,30 +69,25 @@ pub fn read_line(b: &[u8]) -> Line
     requires { 8 ≤ length b.now }
     ensures line { result ≡ read_line b.now }
 {
-    let first = b[0];
     let second = b[1];
-    let b2 = b[2];
-    let b3 = b[3];
-    let b4 = b[4];
-    let b5 = b[5];
-    let b6 = b[6];
-    let b7 = b[7];
-    if first == 0x53 {
-        return state_line(
+    match b[0] {
+        0x53 => state_line(
             second,
-            formats::number_of_four(b2, b3, b4, b5),
-            formats::number_of_two(b6, b7),
-        );
+            formats::number_of_four(b[2], b[3], b[4], b[5]),
+            formats::number_of_two(b[6], b[7]),
+        ),
+        0x46 => for_line(
+            second,
+            formats::number_of_two(b[2], b[3]),
+            formats::number_of_four(b[4], b[5], b[6], b[7]),
+        ),
+        0x4E => next_line(
+            second,
+            formats::number_of_two(b[2], b[3]),
+            formats::number_of_four(b[4], b[5], b[6], b[7]),
+        ),
+        _ => Line::Bad,
     }
-    let high = formats::number_of_two(b2, b3);
-    let low = formats::number_of_four(b4, b5, b6, b7);
-    if first == 0x46 {
-        return for_line(second, high, low);
-    }
-    if first == 0x4E {
-        return next_line(second, high, low);
-    }
-    Line::Bad
 }
 
 // Line k of a program.
@@ -121,44 +102,34 @@ pub fn line_at(p: &[u8], k: usize) -> Line
 pub fn is_bad(l: Line) -> bool
     ensures test { result ≡ is_bad l }
 {
-    if let Line::Bad = l {
-        return true;
-    }
-    false
+    l == Line::Bad
 }
 
 // Whether a line is a State with time 0.
 fn is_end(l: Line) -> bool
     ensures test { result ≡ is_end l }
 {
-    let Line::State { outputs: _, time } = l else {
-        return false;
-    };
-    time == 0
+    matches!(l, Line::State { time: 0, .. })
 }
 
-// The counter of a For, 0 of any other line.
-pub fn for_counter(l: Line) -> u8
-    ensures counter { result ≡ for_counter l }
-{
-    let Line::For { counter, count: _ } = l else {
-        return 0;
-    };
-    counter
-}
-
-// The counter of a For or a Next, 0 of any other line.
-pub fn counter_of(l: Line) -> u8
-    ensures counter { result ≡ counter_of l }
+// The counter of a For.
+pub fn for_counter(l: Line) -> Option<u8>
+    ensures counter { result ≡ for_counter_in l }
 {
     match l {
-        Line::State {
-            outputs: _,
-            time: _,
-        } => 0,
-        Line::For { counter, count: _ } => counter,
-        Line::Next { counter } => counter,
-        Line::Bad => 0,
+        Line::For { counter, .. } => Some(counter),
+        _ => None,
+    }
+}
+
+// The counter of a For or a Next.
+pub fn counter_of(l: Line) -> Option<u8>
+    ensures counter { result ≡ counter_in l }
+{
+    match l {
+        Line::For { counter, .. } => Some(counter),
+        Line::Next { counter } => Some(counter),
+        _ => None,
     }
 }
 
@@ -198,15 +169,7 @@ fn write_line(to: &mut [u8], l: Line)
     requires { length to.old ≡ 8 }
     ensures bytes { to.new ≡ bytes_of l }
 {
-    let b = bytes_of(l);
-    to[0] = b[0];
-    to[1] = b[1];
-    to[2] = b[2];
-    to[3] = b[3];
-    to[4] = b[4];
-    to[5] = b[5];
-    to[6] = b[6];
-    to[7] = b[7];
+    to.copy_from_slice(&bytes_of(l));
 }
 
 // Line k of a program is written; every other byte stays.
@@ -223,10 +186,7 @@ pub fn put_line(p: &mut [u8], k: usize, l: Line)
 fn is_next_of(c: u8, l: Line) -> bool
     ensures test { result ≡ is_next_of c l }
 {
-    if let Line::Next { counter } = l {
-        return c == counter;
-    }
-    false
+    l == Line::Next { counter: c }
 }
 
 // Line i is a Next of counter c. Its first two bytes are asked first, of which the counter decides for nearly every line of a search.
@@ -234,43 +194,35 @@ fn is_next_at(p: &[u8], c: u8, i: usize) -> bool
     requires { IsProgram p.now × (i < 200) }
     ensures test { result ≡ is_next_of c (line_at p.now i) }
 {
-    if p[8 * i + 1] != c {
-        return false;
-    }
-    if p[8 * i] != b'N' {
-        return false;
-    }
-    is_next_of(c, line_at(p, i))
+    p[8 * i + 1] == c && p[8 * i] == b'N' && is_next_of(c, line_at(p, i))
 }
 
-// The first Next of counter c on a line later than k; 200 where there is none.
-pub fn next_after(p: &[u8], c: u8, k: u8) -> u8
+// The first Next of counter c on a line later than k.
+pub fn next_after(p: &[u8], c: u8, k: u8) -> Option<u8>
     requires { IsProgram p.now × (k < 200) }
-    ensures line { result ≡ next_after p.now c k }
+    ensures line { unwrap_or result 200 ≡ next_after p.now c k }
+    ensures within { IfSome result (λ n. n < 200) }
 {
-    let mut i = k as usize + 1;
-    while i < 200 {
-        if is_next_at(p, c, i) {
-            return i as u8;
+    for i in k + 1..200 {
+        if is_next_at(p, c, i as usize) {
+            return Some(i);
         }
-        i += 1;
     }
-    200
+    None
 }
 
-// The first line that is a State with time 0; 200 where there is none.
-pub fn end_line(p: &[u8]) -> u8
+// The first line that is a State with time 0.
+pub fn end_line(p: &[u8]) -> Option<u8>
     requires { IsProgram p.now }
-    ensures line { (result ≡ end_line p.now) × (result ≤ 200) }
+    ensures line { unwrap_or result 200 ≡ end_line p.now }
+    ensures within { IfSome result (λ n. n < 200) }
 {
-    let mut i: u8 = 0;
-    while i < 200 {
+    for i in 0..200 {
         if is_end(line_at(p, i as usize)) {
-            return i;
+            return Some(i);
         }
-        i += 1;
     }
-    200
+    None
 }
 
 // The 200 lines are copied, byte by byte, whatever they are.
@@ -278,5 +230,5 @@ pub fn copy_program(from: &[u8], to: &mut [u8])
     requires { IsProgram from.now × IsProgram to.old }
     ensures program { to.new ≡ from.now }
 {
-    formats::copy(from, to, PROGRAM);
+    to.copy_from_slice(from);
 }

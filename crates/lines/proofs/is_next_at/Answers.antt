@@ -1,15 +1,16 @@
 -- `lines::is_next_at` meets its contract: by the first two bytes, and where those are the ones sought by the line.
 -- Assumes nothing.
-use mathlib.Core.Path.{sym, ap, ◌∙◌}
+use mathlib.Core.Path.{sym, ◌∙◌}
+use borrow.Author.Tests.{eqb-false}
 use Rattle.lines.proofs.Search.{by_the_first, by_the_second}
-use Rattle.lines.specs.Program.{is_next_of}
 use Rattle.lines.proofs.is_next_at.Goals as goal
+use Rattle.lines.proofs.is_next_at.Goals.{then-p-i, else-p-i}
 
-pub returns-then-p-i : goal.returns-then-p-i
-returns-then-p-i c = record { test = sym (by_the_second c.args.c c.args.p.now c.args.i c.if-p-i.true) }
-
-pub returns-then-p-i-ne78 : goal.returns-then-p-i-ne78
-returns-then-p-i-ne78 c = record { test = sym (by_the_first c.args.c c.args.p.now c.args.i c.if-p-i-ne78.true) }
-
-pub returns : goal.returns
-returns c = record { test = c.is_next_of.ensures.test ∙ ap (λ l. is_next_of c.args.c l) c.line_at.ensures.line }
+pub returns-else-p-i-eq78 : goal.returns-else-p-i-eq78
+returns-else-p-i-eq78 c =
+    record {
+      test = c.if-p-i-eq78.false ∙ sym (elim c.if-p-i.branch [
+        | then-p-i w ↦ by_the_first c.args.c c.args.p.now c.args.i (eqb-false _ _ (sym w.value-is ∙ c.if-p-i-eq78.false))
+        | else-p-i w ↦ by_the_second c.args.c c.args.p.now c.args.i w.if-p-i.false
+      ]);
+    }
