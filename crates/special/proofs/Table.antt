@@ -1,17 +1,20 @@
--- The rule of the table of special commands, by tests that antt computes at its 24 places: the entry of a command in a state is the error that it
--- gets there, and that error says why.
+-- The rule of the table of special commands, by tests that antt computes at its 24 places: the entry of a command in a state is the answer that it
+-- gets there, and its error says why.
 -- Assumes nothing.
 use mathlib.Core.Path.{◌≡◌, refl, sym, ap, ap₂, ◌∙◌}
-use Prim.Native.Nat.{ℕ, zero, suc, ◌+◌, ◌-◌, ◌*◌, ◌/◌, ◌%◌, ◌<◌}
+use Prim.Native.Nat.{ℕ, ◌+◌, ◌-◌, ◌*◌, ◌/◌, ◌%◌, ◌<◌}
 use native.Mathlib.Omega.{arith}
-use mathlib.Core.Bool.{Bool, true, false, not, ◌&&◌}
-use mathlib.Core.List.{List, [], ◌∷◌, ◌++◌}
+use mathlib.Core.Bool.{Bool, true, false, not, ◌&&◌, false≢true}
+use mathlib.Core.List.{[]}
 use lib.Dec.{eqb, lit<}
 use lib.ListN.{get_or}
 use borrow.Author.Tests.{eqb-true}
-use Rattle.std.specs.Prelude.{if◌then◌else◌}
-use Rattle.formats.specs.Checks.{Res, refused, passed}
+use Rattle.std.specs.Prelude.{if◌then◌else◌, Ok}
+use Rattle.formats.specs.Checks.{Res, refused, passed, ◌or_else◌}
+use Rattle.formats.specs.Errors.{number_of}
+use Rattle.formats.specs.Numbers.{res_of}
 use Rattle.formats.proofs.Checks.{all_below, below}
+use Rattle.special.specs.declared.TheConstants.{ALLOWED}
 use Rattle.special.specs.declared.Mode.{Mode}
 use Rattle.special.specs.declared.Mode.TheVariants.{Stop, Pause, Auto}
 use Rattle.special.specs.declared.Special.{Special}
@@ -64,17 +67,28 @@ every test holds s mode =
 
 -- ---- the table
 
--- the first n entries, by the definition; the code's constant is the first 24
-abbrev entries : ℕ → List ℕ
-entries zero = []
-entries (suc n) = entries n ++ (at_place 0 forbidden n ∷ [])
+-- the entry of a command in a state
+abbrev entry : Special → Mode → Res (Unit {0})
+entry s mode = res_of number_of (get_or (get_or ALLOWED (code_of s - 1) []) (column_of mode) (Ok tt))
 
--- The entry of a command in a state is the error that it gets there, 0 where it is allowed.
-pub entry_tells : (s : Special) (mode : Mode) → get_or (entries 24) (place_of s mode) 0 ≡ forbidden s mode
-unfolding forbidden special_of
+abbrev same_check : Res (Unit {0}) → Res (Unit {0}) → Bool
+same_check (passed _) (passed _) = true
+same_check (passed _) (refused e) = false
+same_check (refused e) (passed _) = false
+same_check (refused e) (refused f) = eqb e f
+
+same_check_true : (a b : Res (Unit {0})) → same_check a b ≡ true → a ≡ b
+same_check_true (passed _) (passed _) e = refl
+same_check_true (passed _) (refused f) e = absurd (false≢true e)
+same_check_true (refused f) (passed _) e = absurd (false≢true e)
+same_check_true (refused f) (refused g) e = ap refused (eqb-true f g e)
+
+-- The entry of a command in a state is whether it is allowed there, and else the error that it gets.
+pub entry_tells : (s : Special) (mode : Mode) → entry s mode ≡ (allowed s mode or_else forbidden s mode)
+unfolding forbidden special_of ◌or_else◌
 entry_tells s mode =
-    eqb-true (get_or (entries 24) (place_of s mode) 0) (forbidden s mode)
-    (every (λ s mode. eqb (get_or (entries 24) (place_of s mode) 0) (forbidden s mode)) refl s mode)
+    same_check_true (entry s mode) (allowed s mode or_else forbidden s mode)
+    (every (λ s mode. same_check (entry s mode) (allowed s mode or_else forbidden s mode)) refl s mode)
 
 -- 02, item 3: the error e, or 0, says in which states the command is allowed
 abbrev pub is_reason : ℕ → Special → Bool
