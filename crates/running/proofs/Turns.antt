@@ -2,19 +2,18 @@
 -- Assumes nothing.
 use Prim.Native.Nat.{ℕ, zero, suc, ◌+◌, ◌-◌, ◌≤◌, ◌<◌}
 use native.Mathlib.Omega.{arith}
-use mathlib.Core.Path.{◌≡◌, refl, sym, ap, ◌∙◌}
-use mathlib.Core.Logic.{◌≢◌}
+use mathlib.Core.Path.{◌≡◌, refl, sym, ap, subst, ◌∙◌}
 use mathlib.Core.Bool.{Bool, true, false, true≢false}
-use mathlib.Core.List.{List, [], ◌∷◌}
+use mathlib.Core.List.{List, []}
 use lib.ListN.{set}
 use lib.Seq.{set-get_or}
-use types.Run.{OneOf, miss}
-use denote.Enum.Declared.{tag_of}
 use Rattle.lines.specs.declared.Line.{Line}
 use Rattle.lines.specs.declared.Line.TheVariants.{State, For, Next, Bad}
-use Rattle.lines.specs.Line.{OneToFour, counter_of}
+use Rattle.std.specs.Prelude.{Some}
+use Rattle.std.proofs.lemmas.Option.{none-some}
+use Rattle.std.specs.Option.{is_some, unwrap_or}
+use Rattle.lines.specs.Line.{OneToFour, counter_of, counter_in}
 use Rattle.lines.specs.Program.{line_at}
-use Rattle.lines.specs.contracts.Line as L
 use Rattle.lines.proofs.Lines.{Ranged}
 use Rattle.lines.proofs.Places.{line_ranged}
 use Rattle.running.specs.declared.Counter.{Counter}
@@ -27,7 +26,6 @@ use Rattle.running.specs.Running.{free, counter, ends, onward, tick, run_line, i
 use Rattle.running.specs.Turn.{turned, Leads}
 use Rattle.running.specs.Moments.{last_due}
 use Rattle.running.specs.Due.{freed}
-use Rattle.running.specs.contracts.How as H
 use Rattle.running.proofs.Ways.{onward_ways, state_ways, for_ways, next_ways}
 use Rattle.running.proofs.Invariant.{Going, onward_going, step_going}
 use Rattle.running.proofs.Waiting.{due_at}
@@ -37,26 +35,35 @@ use Rattle.running.proofs.Steps.{bad_line, loop_counts, loop_over}
 
 -- ---- the counters that lines name
 
--- a line names one of the four counters, or none; those that name one are counted
-pub record Named (l : Line) : Type 0 where
-  pub most : counter_of l ≤ 4
-  pub counted : counter_of l ≢ 0 → is_for_or_next l ≡ true
-  pub uncounted : counter_of l ≡ 0 → is_for_or_next l ≡ false
+-- a line that names a counter is counted, and no other
+pub is_counted : (l : Line) → is_some (counter_in l) ≡ true → is_for_or_next l ≡ true
+is_counted (State o t) e = e
+is_counted (For c n) e = refl
+is_counted (Next c) e = refl
+is_counted Bad e = e
 
-some_named : (l : Line) (c : ℕ) → counter_of l ≡ c → OneToFour c → is_for_or_next l ≡ true → Named l
-some_named l c is x counts =
-    let least : 1 ≤ c = x.0 in
-    record { most = omega (arith, x.1); counted = λ _. counts; uncounted = λ none. absurd (omega arith) }
+pub not_counted : (l : Line) → is_some (counter_in l) ≡ false → is_for_or_next l ≡ false
+not_counted (State o t) e = refl
+not_counted (For c n) e = e
+not_counted (Next c) e = e
+not_counted Bad e = refl
 
-named : (l : Line) → Ranged l → Named l
-named (State o t) q = record { most = omega arith; counted = λ some. absurd (some refl); uncounted = λ _. refl }
-named (For c n) q = some_named (For c n) c refl q.range.0 refl
-named (Next c) q = some_named (Next c) c refl q.range refl
-named Bad q = record { most = omega arith; counted = λ some. absurd (some refl); uncounted = λ _. refl }
+-- it names this one
+pub named : (l : Line) {c : ℕ} → counter_in l ≡ Some c → c ≡ counter_of l
+named (State o t) e = absurd (none-some _ e)
+named (For d n) {c} e = sym (ap (λ x. unwrap_or x c) e)
+named (Next d) {c} e = sym (ap (λ x. unwrap_or x c) e)
+named Bad e = absurd (none-some _ e)
 
--- every line of a program does so
-pub line_named : (p : List ℕ) (k : ℕ) {l : Line} → l ≡ line_at p k → Named l
-line_named p k due = rw due (named (line_at p k) (line_ranged p k))
+-- one of the four, if it stands in a program
+pub named_few : (p : List ℕ) (k : ℕ) {l : Line} {c : ℕ} → l ≡ line_at p k → counter_in l ≡ Some c → OneToFour c
+named_few p k {l} due is = few l (rw due (line_ranged p k)) is
+  where
+    few : (m : Line) {d : ℕ} → Ranged m → counter_in m ≡ Some d → OneToFour d
+    few (State o t) q e = absurd (none-some _ e)
+    few (For c n) q e = subst OneToFour (sym (named (For c n) e)) q.range.0
+    few (Next c) q e = subst OneToFour (sym (named (Next c) e)) q.range
+    few Bad q e = absurd (none-some _ e)
 
 -- ---- one line of a call
 
@@ -70,19 +77,23 @@ pub stays : (c : ℕ) (r : Run) {k e : ℕ} {held : Counter} → r.line ≡ k �
 stays c r at is = rw (sym at, unchanged c r is)
 
 -- a counted line that is no For is a Next, which goes by its counter alone
-pub other_next : (p : List ℕ) (l : Line) {k : ℕ} {held : Counter} {t : Turn} → is_for_or_next l ≡ true → OneOf (0 ∷ 2 ∷ 3 ∷ []) (tag_of L.the_type l)
+pub other_next : (p : List ℕ) (l : Line) {k : ℕ} {held : Counter} {t : Turn} → is_for_or_next l ≡ true → ((c n : ℕ) → l ≡ For c n → ⊥)
     → ((c : ℕ) → Leads [] (Next c) k held t) → Leads p l k held t
 unfolding run_line
-other_next p (State o t) counts g leads = absurd (true≢false (sym counts))
-other_next p (For c n) counts g leads = absurd (miss (0 ∷ 2 ∷ 3 ∷ []) 1 tt g)
-other_next p (Next c) counts g leads = leads c
-other_next p Bad counts g leads = absurd (true≢false (sym counts))
+other_next p (State o t) counts other leads = absurd (true≢false (sym counts))
+other_next p (For c n) counts other leads = absurd (other c n refl)
+other_next p (Next c) counts other leads = leads c
+other_next p Bad counts other leads = absurd (true≢false (sym counts))
 
 -- a For or a Next is never held
 abbrev is_holds : How → Bool
 is_holds Holds = true
 is_holds (Ends e) = false
 is_holds GoesOn = false
+
+-- it does not end the program
+abbrev pub NoEnd : How → Type 0
+NoEnd h = (e : ℕ) → h ≡ Ends e → ⊥
 
 abbrev NotHeld : Step → Type 0
 NotHeld s = is_holds s.how ≡ false
@@ -97,19 +108,19 @@ never_holds p (Next c) r counts = next_ways NotHeld p r c (λ _. refl) (λ _. re
 never_holds p Bad r counts = absurd (true≢false (sym counts))
 
 -- so it goes on where it does not end
-going_on : (h : How) → is_holds h ≡ false → OneOf (0 ∷ 2 ∷ []) (tag_of H.the_type h) → h ≡ GoesOn
-going_on Holds never g = absurd (true≢false never)
-going_on (Ends e) never g = absurd (miss (0 ∷ 2 ∷ []) 1 tt g)
-going_on GoesOn never g = refl
+going_on : (h : How) → is_holds h ≡ false → NoEnd h → h ≡ GoesOn
+going_on Holds never ends = absurd (true≢false never)
+going_on (Ends e) never ends = absurd (ends e refl)
+going_on GoesOn never ends = refl
 
 -- Line l, which names counter c, is due after n counted ones, and leads to the turn t.
 module _ (p : List ℕ) (r : Run) (n : ℕ) (l : Line) (c : ℕ) (t : Turn)
-    (lt : n < 400) (due : l ≡ line_at p r.line) (names : c ≡ counter_of l) (some : c ≢ 0) (leads : Leads p l r.line (counter r c) t) where
+    (lt : n < 400) (due : l ≡ line_at p r.line) (names : counter_in l ≡ Some c) (leads : Leads p l r.line (counter r c) t) where
   counts : is_for_or_next l ≡ true
-  counts = (line_named p r.line due).counted (λ none. some (names ∙ none))
+  counts = is_counted l (ap is_some names)
 
   is : turned c t r ≡ run_line p l r
-  is = ap (λ d. turned d t r) names ∙ leads r refl (ap (counter r) (sym names))
+  is = let e = named l names in ap (λ d. turned d t r) e ∙ leads r refl (ap (counter r) (sym e))
 
   is_step : turned c t r ≡ step p r
   unfolding step
@@ -126,7 +137,7 @@ module _ (p : List ℕ) (r : Run) (n : ℕ) (l : Line) (c : ℕ) (t : Turn)
   due_ends w = sym (turn ∙ simp w)
 
   -- or what is left to run after it is what was left before it,
-  pub due_goes_on : OneOf (0 ∷ 2 ∷ []) (tag_of H.the_type t.how)
+  pub due_goes_on : NoEnd t.how
       → run_due p (400 - n) n r ≡ run_due p (400 - (n + 1)) (n + 1) (turned c t r).run
   due_goes_on g =
       turn ∙ simp (going_on t.how (ap (λ (s : Step). is_holds s.how) is ∙ never_holds p l r counts) g)
@@ -144,7 +155,7 @@ module _ (p : List ℕ) (r : Run) (n : ℕ) (l : Line) (c : ℕ) (t : Turn)
       ap (λ (s : Step). s.run) is_step ∙ busy_stays p r (how_is w) six ∙ sym (LastDue.last_ends p (400 - n) r (how_is w))
 
   -- where it goes on, that is what it is from the next line on,
-  pub last_further : OneOf (0 ∷ 2 ∷ []) (tag_of H.the_type t.how) → last_due p (400 - n) r ≡ last_due p (400 - (n + 1)) (turned c t r).run
+  pub last_further : NoEnd t.how → last_due p (400 - n) r ≡ last_due p (400 - (n + 1)) (turned c t r).run
   last_further g =
       let e : 400 - n ≡ suc (400 - (n + 1)) = omega arith in
       let how = going_on t.how (ap (λ (s : Step). is_holds s.how) is ∙ never_holds p l r counts) g in
@@ -170,42 +181,45 @@ module _ (p : List ℕ) (r : Run) (n : ℕ) where
   last_left Bad due plain left = bad_line p r due 0 n ∙ sym (bad_line p r due (suc left) n)
 
   -- at a line that is not counted a call ends: how many more may be run does not matter
-  pub none_left : {l : Line} → l ≡ line_at p r.line → counter_of l ≡ 0 → (left : ℕ) → run_due p 0 n r ≡ run_due p left n r
+  pub none_left : {l : Line} → l ≡ line_at p r.line → is_some (counter_in l) ≡ false → (left : ℕ) → run_due p 0 n r ≡ run_due p left n r
   none_left due none zero = refl
-  none_left due none (suc left) = last_left _ (sym due) ((line_named p r.line due).uncounted none) left
+  none_left {l} due none (suc left) = last_left l (sym due) (not_counted l none) left
 
 -- when 400 were run none is left
 pub all_counted : (p : List ℕ) (r : Run) (n : ℕ) → 400 ≤ n → run_due p 0 n r ≡ run_due p (400 - n) n r
 all_counted p r n le = let z : 400 - n ≡ 0 = omega arith in rw z
 
 -- a line that is neither Bad nor State is counted
-other_counted : (l : Line) → OneOf (0 ∷ 1 ∷ 2 ∷ []) (tag_of L.the_type l) → OneOf (1 ∷ 2 ∷ 3 ∷ []) (tag_of L.the_type l) → is_for_or_next l ≡ true
-other_counted (State o t) h g = absurd (miss (1 ∷ 2 ∷ 3 ∷ []) 0 tt g)
-other_counted (For c m) h g = refl
-other_counted (Next c) h g = refl
-other_counted Bad h g = absurd (miss (0 ∷ 1 ∷ 2 ∷ []) 3 tt h)
+-- a line that is neither a State nor Bad
+other_counted : (l : Line) → ((o t : ℕ) → l ≡ State o t → ⊥) → (l ≡ Bad → ⊥) → is_for_or_next l ≡ true
+other_counted (State o t) state bad = absurd (state o t refl)
+other_counted (For c m) state bad = refl
+other_counted (Next c) state bad = refl
+other_counted Bad state bad = absurd (bad refl)
 
 -- the line that is due when no more may be counted
 module _ (p : List ℕ) (r : Run) (n : ℕ) (l : Line) (due : l ≡ line_at p r.line) where
   pub last_bad : l ≡ Bad → stops 14 n r ≡ run_due p 0 n r
   last_bad is = sym (bad_line p r (sym due ∙ is) 0 n)
 
-  pub last_stops : OneOf (0 ∷ 1 ∷ 2 ∷ []) (tag_of L.the_type l) → OneOf (1 ∷ 2 ∷ 3 ∷ []) (tag_of L.the_type l) → stops 13 n r ≡ run_due p 0 n r
-  last_stops h g = sym (loop_over p r (ap is_for_or_next (sym due) ∙ other_counted l h g) n)
+  pub last_stops : ((o t : ℕ) → l ≡ State o t → ⊥) → (l ≡ Bad → ⊥) → stops 13 n r ≡ run_due p 0 n r
+  last_stops state bad = sym (loop_over p r (ap is_for_or_next (sym due) ∙ other_counted l state bad) n)
 
   module _ {o t : ℕ} (state : l ≡ State o t) (s : Step) (is : s ≡ run_line [] (State o t) r) where
     last : run_due p 0 n r ≡ follow s.how n s.run (λ x. rests n x)
     unfolding run_due step run_line
     last = let e = sym due ∙ state in rw (e, is)
 
-    pub last_holds : s.how ≡ Holds → rests n s.run ≡ run_due p 0 n r
-    last_holds w = sym (last ∙ simp w)
-
     pub last_ends : {e : ℕ} → s.how ≡ Ends e → stops e n s.run ≡ run_due p 0 n r
     last_ends w = sym (last ∙ simp w)
 
-    pub last_goes_on : s.how ≡ GoesOn → rests n s.run ≡ run_due p 0 n r
-    last_goes_on w = sym (last ∙ simp w)
+    pub last_rests : NoEnd s.how → rests n s.run ≡ run_due p 0 n r
+    last_rests none = sym (last ∙ rest s.how none)
+      where
+        rest : (h : How) → NoEnd h → follow h n s.run (λ x. rests n x) ≡ rests n s.run
+        rest Holds none = refl
+        rest (Ends e) none = absurd (none e refl)
+        rest GoesOn none = refl
 
 -- ---- a tick on which the line falls due
 
@@ -213,14 +227,11 @@ module _ (p : List ℕ) (r : Run) (s : Step) (on : r.on ≡ true) (le : r.wait �
   tick_goes : tick p r ≡ follow s.how 0 s.run (λ x. run_due p 400 0 x)
   tick_goes = due_at p r on le ∙ rw is
 
-  pub tick_holds : s.how ≡ Holds → rests 0 s.run ≡ tick p r
-  tick_holds w = sym (tick_goes ∙ simp w)
-
   pub tick_ends : {e : ℕ} → s.how ≡ Ends e → stops e 0 s.run ≡ tick p r
   tick_ends w = sym (tick_goes ∙ simp w)
 
-  pub tick_runs : s.how ≡ GoesOn → run_due p 400 0 s.run ≡ tick p r
-  tick_runs w = sym (tick_goes ∙ simp w)
+  pub tick_runs : NoEnd s.how → run_due p 400 0 s.run ≡ tick p r
+  tick_runs none = let w = going_on s.how (rw is (onward_never r)) none in sym (tick_goes ∙ simp w)
 
   pub tick_going : Going r → Going s.run
   tick_going g = rw is (onward_going r g).going

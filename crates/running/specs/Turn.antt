@@ -7,11 +7,16 @@ use Rattle.running.specs.declared.Counter.{Counter}
 use Rattle.running.specs.declared.Run.{Run}
 use Rattle.running.specs.declared.Step.{Step}
 use Rattle.running.specs.declared.Turn.{Turn}
+use Rattle.running.specs.declared.How.TheVariants.{Ends}
 use Rattle.running.specs.Running.{counter, at_line, with_counter, run_line}
 
 -- a turn of counter c, put back into its run
 abbrev pub turned : ℕ → Turn → Run → Step
 turned c t r = record { run = at_line t.line (with_counter c t.held r); how = t.how }
+
+-- on line k the program ends with that event, and the counter stays as it is
+abbrev pub stopping : ℕ → ℕ → Counter → Turn
+stopping event k held = record { held = held; line = k; how = Ends event }
 
 -- On line k, with its counter as `held`, line l, a For or a Next, leads to the turn t, whatever else the run is.
 abbrev pub Leads : List ℕ → Line → ℕ → Counter → Turn → Type 0

@@ -2,119 +2,90 @@
 // has no room for this; a report that follows a program for long has.
 ghost use Rattle.std.specs.Prelude.{◌≡◌, true, ◌<◌};
 ghost use Rattle.lines.specs.Program.{IsProgram, line_at};
-ghost use Rattle.lines.specs.Loops.{next_for};
-ghost use Rattle.lines.specs.Line.{counter_of, count_of};
 ghost use Rattle.running.specs.Running.{run_due};
 ghost use Rattle.running.specs.Invariant.{RunInvariant};
 ghost use Rattle.running.specs.Due.{Due};
-ghost use Rattle.running.specs.Known.{Known as IsTable, Tabled};
+ghost use Rattle.running.specs.Known.{IsKnown, Tabled};
 
 use crate::{How, Ran, Run, loops};
 use lines::Line;
 
-// Of each line its counter, 0 where it names none, and of a For the line of its Next, 200 where it has none, and its count.
+// What is known of a line: the line itself, and of a For the line of its Next, if it has one.
 #[derive(Clone, Copy)]
-pub struct Table {
-    pub counters: [u8; 200],
-    pub nexts: [u8; 200],
-    pub counts: [u16; 200],
+pub struct Known {
+    pub line: Line,
+    pub next: Option<u8>,
 }
 
-// The line of the Next of a For on line k, 0 for any other line.
-fn next_of(p: &[u8], l: Line, k: u8) -> u8
+// What is known of line k.
+fn known_at(p: &[u8], k: u8) -> Known
     requires { IsProgram p.now × (k < 200) }
-    ensures line { result ≡ next_for p.now k l }
+    ensures known { IsKnown p.now k result }
 {
-    let Line::For { counter, count: _ } = l else {
-        return 0;
+    let line = lines::line_at(p, k as usize);
+    let next = match line {
+        Line::For { counter, .. } => lines::next_after(p, counter, k),
+        _ => None,
     };
-    lines::next_after(p, counter, k)
+    Known { line, next }
 }
 
-// The count of a For, 0 of any other line.
-fn count_of(l: Line) -> u16
-    ensures count { result ≡ count_of l }
-{
-    let Line::For { counter: _, count } = l else {
-        return 0;
-    };
-    count
-}
-
-// What is known of a program.
-pub fn known_of(p: &[u8]) -> Table
+// What is known of a program, line by line.
+pub fn known_of(p: &[u8]) -> [Known; 200]
     requires { IsProgram p.now }
-    ensures known { IsTable p.now result }
+    ensures known { Tabled p.now result }
 {
-    let mut counters = [0u8; 200];
-    let mut nexts = [0u8; 200];
-    let mut counts = [0u16; 200];
-    let mut i: u8 = 0;
-    while i < 200 {
-        let k = i as usize;
-        let l = lines::line_at(p, k);
-        counters[k] = lines::counter_of(l);
-        nexts[k] = next_of(p, l, i);
-        counts[k] = count_of(l);
-        i += 1;
+    let mut table = [Known {
+        line: Line::Bad,
+        next: None,
+    }; 200];
+    for k in 0..200 {
+        table[k as usize] = known_at(p, k);
     }
-    Table {
-        counters,
-        nexts,
-        counts,
-    }
+    table
 }
 
-// The last line of a call, after n that counted, and the counter that it names. By `run_due`, which the box calls too: `last_due` has one
+// The last line of a call, after n that counted: a For or a Next is one too many. By `run_due`, which the box calls too: `last_due` has one
 // caller, or the box's stack grows.
-fn last_known(run: Run, p: &[u8], counter: u8, n: u16) -> Ran
-    requires { IsProgram p.now × (run.on ≡ true) × (RunInvariant run) × (counter ≡ counter_of (line_at p.now run.line)) }
+fn last_known(run: Run, p: &[u8], line: Line, n: u16) -> Ran
+    requires { IsProgram p.now × (run.on ≡ true) × (RunInvariant run) × (line ≡ line_at p.now run.line) }
     ensures ran { result ≡ run_due p.now 0 n run }
 {
-    if 0 < counter {
+    if lines::counter_of(line).is_some() {
         return run.ended(13, n);
     }
     let ran = run.run_due(p);
-    let left = ran.run;
-    let event = ran.event;
     Ran {
-        run: left,
-        event,
+        run: ran.run,
+        event: ran.event,
         lines: n,
     }
 }
 
 // Lines are run until one is held or ends the program, at most 400 of them For or Next. Where the program has ended, its loops may not be
 // freed yet: who asks why it ended finds in them what the counters held.
-pub fn due(start: Run, p: &[u8], counters: &[u8], nexts: &[u8], counts: &[u16]) -> Ran
-    requires { IsProgram p.now × (start.on ≡ true) × (RunInvariant start) × (Tabled p.now counters.now nexts.now counts.now) }
+pub fn due(start: Run, p: &[u8], table: &[Known]) -> Ran
+    requires { IsProgram p.now × (start.on ≡ true) × (RunInvariant start) × (Tabled p.now table.now) }
     ensures due { Due p.now start result }
 {
     let mut run = start;
-    let mut n: u16 = 0;
-    while n < 400 {
-        let k = run.line;
-        let i = k as usize;
-        let counter = counters[i];
-        if counter == 0 {
-            break;
-        }
-        n += 1;
+    for n in 0..400 {
+        let known = table[run.line as usize];
+        let Some(counter) = lines::counter_of(known.line) else {
+            return last_known(run, p, known.line, n);
+        };
         let c = (counter - 1) as usize;
-        let before = run.counters[c];
-        let t = loops::turn_known(nexts[i], counts[i], k, before);
-        let held = t.held;
-        run.counters[c] = held;
+        let t = loops::turn_known(known, run.line, run.counters[c]);
+        run.counters[c] = t.held;
         run.line = t.line;
-        let how = t.how;
-        if let How::Ends(event) = how {
+        if let How::Ends(event) = t.how {
             return Ran {
                 run,
                 event,
-                lines: n,
+                lines: n + 1,
             };
         }
     }
-    let last = run.line as usize;
-    last_known(run, p, counters[last], n)
+    let last = table[run.line as usize];
+    last_known(run, p, last.line, 400)
 }

@@ -63,6 +63,7 @@ pub struct Turn {
 }
 
 // What a start or a tick did: the run after it, the event raised (0 for none), the number of For and Next lines run.
+// Kept: the event as a number, as 212 shows it; the running rules and the theorems on events speak of it so (demands/ByTheRules, Stops).
 #[derive(Clone, Copy)]
 pub struct Ran {
     pub run: Run,
@@ -83,8 +84,7 @@ fn free() -> Counter
 fn all_free() -> [Counter; 4]
     ensures free { result ≡ all_free }
 {
-    let one = free();
-    [one; 4]
+    [free(); 4]
 }
 
 impl Run {
@@ -92,13 +92,12 @@ impl Run {
     pub fn fresh() -> Run
         ensures run { result ≡ fresh_run }
     {
-        let counters = all_free();
         Run {
             on: false,
             line: 0,
             outputs: 0,
             wait: 0,
-            counters,
+            counters: all_free(),
         }
     }
 
@@ -106,13 +105,12 @@ impl Run {
     pub fn begun(k: u8, outputs: u32) -> Run
         ensures run { result ≡ begun k outputs }
     {
-        let counters = all_free();
         Run {
             on: true,
             line: k,
             outputs,
             wait: 0,
-            counters,
+            counters: all_free(),
         }
     }
 
@@ -128,13 +126,12 @@ impl Run {
     pub fn stopped(self) -> Run
         ensures run { result ≡ stopped self }
     {
-        let counters = all_free();
         Run {
             on: false,
             line: self.line,
             outputs: self.outputs,
             wait: 0,
-            counters,
+            counters: all_free(),
         }
     }
 
@@ -142,9 +139,8 @@ impl Run {
     pub fn onward(mut self) -> Step
         ensures step { result ≡ onward self }
     {
-        let line = self.line;
-        if line < 199 {
-            self.line = line + 1;
+        if self.line < 199 {
+            self.line += 1;
             return Step {
                 run: self,
                 how: How::GoesOn,
@@ -180,9 +176,8 @@ impl Run {
     fn ended(self, event: u8, n: u16) -> Ran
         ensures ran { result ≡ stops event n self }
     {
-        let run = self.stopped();
         Ran {
-            run,
+            run: self.stopped(),
             event,
             lines: n,
         }
@@ -194,29 +189,20 @@ impl Run {
         requires { IsProgram p.now × (RunInvariant self) }
         ensures ran { result ≡ run_due p.now 0 n self }
     {
-        let k = self.line;
-        let line = lines::line_at(p, k as usize);
-        if let Line::Bad = line {
-            return self.ended(14, n);
-        }
-        let Line::State { outputs, time } = line else {
-            return self.ended(13, n);
-        };
-        let s = self.run_state(outputs, time);
-        let run = s.run;
-        let how = s.how;
-        match how {
-            How::Holds => Ran {
-                run,
-                event: 0,
-                lines: n,
-            },
-            How::Ends(event) => run.ended(event, n),
-            How::GoesOn => Ran {
-                run,
-                event: 0,
-                lines: n,
-            },
+        match lines::line_at(p, self.line as usize) {
+            Line::State { outputs, time } => {
+                let s = self.run_state(outputs, time);
+                match s.how {
+                    How::Ends(event) => s.run.ended(event, n),
+                    _ => Ran {
+                        run: s.run,
+                        event: 0,
+                        lines: n,
+                    },
+                }
+            }
+            Line::Bad => self.ended(14, n),
+            _ => self.ended(13, n),
         }
     }
 
@@ -230,21 +216,16 @@ impl Run {
         let mut run = self;
         let mut n: u16 = 0;
         while n < 400 {
-            let k = run.line;
-            let line = lines::line_at(p, k as usize);
-            let counter = lines::counter_of(line);
-            if counter == 0 {
+            let line = lines::line_at(p, run.line as usize);
+            let Some(counter) = lines::counter_of(line) else {
                 break;
-            }
+            };
             n += 1;
             let c = (counter - 1) as usize;
-            let before = run.counters[c];
-            let t = loops::turn_of(p, line, k, before);
-            let held = t.held;
-            run.counters[c] = held;
+            let t = loops::turn_of(p, line, run.line, run.counters[c]);
+            run.counters[c] = t.held;
             run.line = t.line;
-            let how = t.how;
-            if let How::Ends(event) = how {
+            if let How::Ends(event) = t.how {
                 return run.ended(event, n);
             }
         }
@@ -256,17 +237,15 @@ impl Run {
         requires { IsProgram p.now × (RunInvariant self) }
         ensures ran { result ≡ tick p.now self }
     {
-        let on = self.on;
-        if !on {
+        if !self.on {
             return Ran {
                 run: self,
                 event: 0,
                 lines: 0,
             };
         }
-        let wait = self.wait;
-        if 1 < wait {
-            self.wait = wait - 1;
+        if 1 < self.wait {
+            self.wait -= 1;
             return Ran {
                 run: self,
                 event: 0,
@@ -274,16 +253,9 @@ impl Run {
             };
         }
         let s = self.onward();
-        let run = s.run;
-        let how = s.how;
-        match how {
-            How::Holds => Ran {
-                run,
-                event: 0,
-                lines: 0,
-            },
-            How::Ends(event) => run.ended(event, 0),
-            How::GoesOn => run.run_due(p),
+        match s.how {
+            How::Ends(event) => s.run.ended(event, 0),
+            _ => s.run.run_due(p),
         }
     }
 }
@@ -293,6 +265,5 @@ pub fn start(p: &[u8], k: u8, outputs: u32) -> Ran
     requires { IsProgram p.now × (k < 200) }
     ensures ran { result ≡ start p.now k outputs }
 {
-    let run = Run::begun(k, outputs);
-    run.run_due(p)
+    Run::begun(k, outputs).run_due(p)
 }

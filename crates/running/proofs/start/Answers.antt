@@ -7,8 +7,8 @@ use Rattle.running.proofs.start.Goals as goal
 
 pub run_due-requires : goal.run_due-requires
 run_due-requires c =
-    rw c.begun-run.ensures.run (c.requires.0, refl, still (begun_going c.args.k c.args.outputs c.requires.1))
+    rw c.begun.ensures.run (c.requires.0, refl, still (begun_going c.args.k c.args.outputs c.requires.1))
 
 pub returns : goal.returns
 unfolding start
-returns c = record { ran = c.run_due.ensures.ran ∙ simp c.begun-run.ensures.run }
+returns c = record { ran = c.run_due.ensures.ran ∙ simp c.begun.ensures.run }

@@ -1,56 +1,44 @@
 -- `running::Run::run_due` meets its contract: the loop keeps what is left to run equal to what was to run; each turn counts one line, and
 -- by both ways out what is left is what the last line leads to.
 -- Assumes nothing.
-use mathlib.Core.Path.{refl, sym, ◌∙◌}
+use mathlib.Core.Path.{sym, ap, ◌∙◌}
 use native.Mathlib.Omega.{arith}
 use borrow.Author.Rules.{rules}
-use Rattle.running.proofs.Turns.{line_named, due_ends, due_goes_on, due_going, all_counted, none_left}
-use Rattle.running.proofs.Invariant.{goes_on, still}
-use borrow.Enum.Refused.{opened}
-use Rattle.running.proofs.Run.run_due.Goals.{else-loop-n-test, then-loop-n-test+then-counter-eq0}
+use Rattle.std.specs.Option.{is_some}
+use Rattle.lines.specs.Line.{OneToFour}
+use Rattle.running.proofs.Turns.{named_few, due_ends, due_goes_on, due_going, all_counted, none_left}
+use Rattle.running.proofs.Run.run_due.Goals.{else-loop-n-test, then-loop-n-test+in_default}
 use Rattle.running.proofs.Run.run_due.Goals as goal
 
-pub loop-n-init : goal.loop-n-init
-loop-n-init c = (search rules, goes_on _ c.requires.1 c.requires.2, refl)
+-- the counter is one of the four
+few : (c : goal.In-Some) → OneToFour c.in-Some.counter
+few c = named_few _ _ c.line_at-line.ensures.line (sym c.counter_of.ensures.counter ∙ c.in-Some.is)
 
-pub line_at-line-requires : goal.line_at-line-requires
-line_at-line-requires c = search rules
+pub overflow_sub-c : goal.overflow_sub-c
+overflow_sub-c c = (few c).0
 
 pub bounds-run-c : goal.bounds-run-c
-bounds-run-c c =
-    omega (arith, c.counter_of-counter.ensures.counter, (line_named _ _ c.line_at-line.ensures.line).most)
-
-pub turn_of-t-requires : goal.turn_of-t-requires
-turn_of-t-requires c = (
-  c.requires.0,
-  c.loop-n.invariant.1.in_program,
-  c.loop-n.invariant.1.for_line _,
-  (line_named _ _ c.line_at-line.ensures.line).counted (λ none. c.if-counter-eq0.false (c.counter_of-counter.ensures.counter ∙ none)),
-)
+bounds-run-c c = omega (arith, (few c).1)
 
 pub bounds-run-c-in-loop-n : goal.bounds-run-c-in-loop-n
-bounds-run-c-in-loop-n c =
-    omega (arith, c.counter_of-counter.ensures.counter, (line_named _ _ c.line_at-line.ensures.line).most)
+bounds-run-c-in-loop-n c = omega (arith, (named_few _ _ c.line_at-line.ensures.line (sym c.counter_of.ensures.counter ∙ c.in-Some.is)).1)
 
 pub returns-in-Ends : goal.returns-in-Ends
 returns-in-Ends c =
     record {
       ran =
           c.ended.ensures.ran
-          ∙ due_ends _ _ _ _ _ _ c.loop-n-test.true c.line_at-line.ensures.line c.counter_of-counter.ensures.counter c.if-counter-eq0.false c.turn_of-t.ensures.turn c.in-Ends.is
+          ∙ due_ends _ _ _ _ _ _ c.loop-n-test.true c.line_at-line.ensures.line (sym c.counter_of.ensures.counter ∙ c.in-Some.is) c.turn_of-t.ensures.turn c.in-Ends.is
           ∙ sym c.loop-n.invariant.2;
     }
 
 pub loop-n-preserved : goal.loop-n-preserved
-loop-n-preserved c = (
-  search rules,
-  due_going _ _ _ _ _ _ c.loop-n-test.true c.line_at-line.ensures.line c.counter_of-counter.ensures.counter c.if-counter-eq0.false c.turn_of-t.ensures.turn c.loop-n.invariant.1,
-  c.loop-n.invariant.2
-      ∙ due_goes_on _ _ _ _ _ _ c.loop-n-test.true c.line_at-line.ensures.line c.counter_of-counter.ensures.counter c.if-counter-eq0.false c.turn_of-t.ensures.turn (opened c.in_default.in_default-own.keys2),
-)
-
-pub last_due-requires : goal.last_due-requires
-last_due-requires c = (c.requires.0, still c.loop-n.invariant.1)
+loop-n-preserved c =
+    let names = sym c.counter_of.ensures.counter ∙ c.in-Some.is in (
+      search rules,
+      due_going _ _ _ _ _ _ c.loop-n-test.true c.line_at-line.ensures.line names c.turn_of-t.ensures.turn c.loop-n.invariant.1,
+      c.loop-n.invariant.2 ∙ due_goes_on _ _ _ _ _ _ c.loop-n-test.true c.line_at-line.ensures.line names c.turn_of-t.ensures.turn c.in_default-how.not-Ends,
+    )
 
 pub returns : goal.returns
 returns c =
@@ -59,7 +47,7 @@ returns c =
           c.last_due.ensures.ran
           ∙ elim c.loop-n-test.branch [
             | else-loop-n-test w ↦ all_counted _ _ _ w.loop-n-test.false
-            | then-loop-n-test+then-counter-eq0 w ↦ none_left _ _ _ w.line_at-line.ensures.line (sym w.counter_of-counter.ensures.counter ∙ w.if-counter-eq0.true) _
+            | then-loop-n-test+in_default w ↦ none_left _ _ _ w.line_at-line.ensures.line (ap is_some (sym w.counter_of.ensures.counter ∙ w.in_default.is)) _
           ]
           ∙ sym c.loop-n.invariant.2;
     }

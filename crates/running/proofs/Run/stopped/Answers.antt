@@ -5,4 +5,4 @@ use Rattle.running.proofs.Run.stopped.Goals as goal
 
 pub returns : goal.returns
 unfolding stopped
-returns c = record { run = simp c.all_free-counters.ensures.free }
+returns c = record { run = simp c.all_free.ensures.free }

@@ -10,4 +10,4 @@ returns-then-k-lt199 c = record { turn = λ _ _. simp (lt-ltb _ _ c.if-k-lt199.t
 
 pub returns : goal.returns
 unfolding onward
-returns c = record { turn = λ _ _. simp (le-ltb _ _ c.if-k-lt199.false) }
+returns c = record { turn = λ _ _. simp (c.ended.ensures.turn, le-ltb _ _ c.if-k-lt199.false) }

@@ -1,10 +1,8 @@
--- `running::loops::turn_known` meets its contract: by the Next.
+-- `running::loops::turn_known` meets its contract: by the kind of line.
 -- Assumes nothing.
-use Rattle.running.proofs.Knowing.{next_leads, for_leads}
+use borrow.Author.Rules.{rules}
+use Rattle.running.proofs.Turns.{other_next}
 use Rattle.running.proofs.loops.turn_known.Goals as goal
 
-pub returns-then-next-eq0 : goal.returns-then-next-eq0
-returns-then-next-eq0 c = record { turn = λ p known. next_leads p _ _ _ known c.if-next-eq0.true c.turn_next.ensures.turn }
-
-pub returns : goal.returns
-returns c = record { turn = λ p known. for_leads p _ _ _ known c.if-next-eq0.false c.for_turn.ensures.turn }
+pub returns-in_default : goal.returns-in_default
+returns-in_default c = record { turn = λ p known. other_next _ _ c.requires.1 (λ _ _ is. search rules) c.turn_next.ensures.turn }
