@@ -48,6 +48,17 @@ pub enum Error {
     BadLine = 24,
 }
 
+// A number stands for itself.
+impl Numbered for u8 {
+    ghost number_of = { λ n. n };
+
+    fn number(self) -> u8 {
+        self
+    }
+
+    ghost distinct = { λ _ _ same. same };
+}
+
 impl Numbered for Error {
     ghost number_of = { number_of_error };
 
