@@ -52,10 +52,7 @@ pub fn report(p: &[u8]) -> Result<u64, Refusal>
     if p.len() != lines::PROGRAM {
         return Err(Refusal::NotProgram);
     }
-    let end = lines::end_line(p);
-    if end == 200 {
-        return Err(Refusal::NoEnd);
-    }
+    let end = lines::end_line(p).ok_or(Refusal::NoEnd)?;
     let nexts = nesting::walked(p, end).ok_or(Refusal::Tangled)?;
     // the end is inside an open loop, however far its Next is
     if nesting::is_across_one(end, 200, nexts) {

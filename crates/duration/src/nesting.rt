@@ -29,10 +29,7 @@ fn walk_for(p: &[u8], i: u8, counter: u8, mut nexts: Nexts) -> Option<Nexts>
     requires { IsProgram p.now × (i < 200) × (1 ≤ counter) × (counter ≤ 4) }
     ensures walk { result ≡ walked_line (For counter 0) i (next_after p.now counter i) nexts }
 {
-    let n = lines::next_after(p, counter, i);
-    if n == 200 {
-        return None;
-    }
+    let n = lines::next_after(p, counter, i)?;
     if is_across_one(i, n, nexts) {
         return None;
     }

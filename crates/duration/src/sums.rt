@@ -93,7 +93,7 @@ pub fn sequence(p: &[u8], at: usize, end: usize) -> Sum
     while i < end {
         let line = lines::line_at(p, i);
         if let Line::For { counter, count } = line {
-            let n = lines::next_after(p, counter, i as u8) as usize;
+            let n = lines::next_after(p, counter, i as u8).unwrap() as usize;
             sum = sum.joined(looped(p, i, n, count));
             i = n + 1;
         } else {
