@@ -7,32 +7,28 @@ use mathlib.Core.Logic.{◌≢◌}
 use mathlib.Core.Bool.{Bool, true, false, not}
 use mathlib.Core.List.{List}
 use lib.ListN.{length}
+use Rattle.std.specs.Prelude.{Option, None, Some}
 use lib.Dec.{leb}
 use borrow.Author.Tests.{eq-eqb, ne_eqb, lt-ltb, le-ltb, le-leb, lt-leb, leb-true, leb-false}
 use Rattle.formats.specs.Checks.{refused, passed, ◌>>◌, ◌or_else◌}
 use Rattle.lines.specs.Line.{is_bad}
 use Rattle.lines.specs.Program.{line_at}
-use Rattle.duration.specs.declared.nesting.Walk.{Walk}
 use Rattle.duration.specs.declared.sums.Sum.{Sum}
-use Rattle.duration.specs.declared.Answer.TheVariants.{Refused}
 use Rattle.lines.specs.Loops.{end_line}
 use Rattle.duration.specs.Loops.{is_tangled, ends_inside}
 use Rattle.duration.specs.Ticks.{run_ticks, idles_at, idles, has_bad}
-use Rattle.duration.specs.Report.{most_ticks, report, answer_of}
-use Rattle.duration.specs.Walk.{is_across_one, Walked}
+use Rattle.duration.specs.Report.{most_ticks, report}
+use Rattle.duration.specs.Walk.{is_across_one, walked}
 use Rattle.duration.specs.Summing.{capped, sum_of, told_of, Nests}
 use Rattle.formats.proofs.Checks.{rule_passes, rule_refuses}
 use Rattle.formats.proofs.Refusals.{Before, none_before_lem, one_more}
 use Rattle.duration.proofs.Order.{checks, told_at, told_well}
 use Rattle.duration.proofs.Faults.{inside_is}
+use Rattle.duration.proofs.Walking.{walk_tangled, walk_plain}
 use Rattle.lines.proofs.FirstEnd.{end_within, end_is}
 use Rattle.duration.proofs.Judging.{nests}
 use Rattle.duration.proofs.Capping.{capped_small, capped_large}
 use Rattle.duration.proofs.Summing.{in_all}
-
--- the answer of a refusal
-refusing : (p : List ℕ) (n : ℕ) → report p ≡ refused n → Refused n ≡ answer_of (report p)
-refusing p n is = sym (ap answer_of is)
 
 -- what is told of a sum, test by test
 module _ (s : Sum) where
@@ -54,40 +50,40 @@ module _ (s : Sum) where
       unfolding told_of ◌>>◌ ◌or_else◌
       ticks_told few = rw (moves, good, le-leb s.ticks most_ticks few)
 
-pub no_program : (p : List ℕ) → length p ≢ 1600 → Refused 30 ≡ answer_of (report p)
-no_program p ne = refusing p 30 (told_at p (end_line p) refl 0 30 (none_before_lem (checks p (end_line p))) (rule_refuses 30 (ne_eqb (length p) 1600 ne)))
+pub no_program : (p : List ℕ) → length p ≢ 1600 → report p ≡ refused 30
+no_program p ne = told_at p (end_line p) refl 0 30 (none_before_lem (checks p (end_line p))) (rule_refuses 30 (ne_eqb (length p) 1600 ne))
 
 module _ (p : List ℕ) (size : length p ≡ 1600) (e : ℕ) (is : e ≡ end_line p) where
   before_042 : Before (checks p e) 1
   before_042 = one_more (checks p e) 0 (rule_passes 30 (eq-eqb (length p) 1600 size)) (none_before_lem (checks p e))
 
-  pub no_end : e ≡ 200 → Refused 42 ≡ answer_of (report p)
-  no_end none = refusing p 42 (told_at p e is 1 42 before_042 (rule_refuses 42 (le-ltb e 200 (omega arith))))
+  pub no_end : e ≡ 200 → report p ≡ refused 42
+  no_end none = told_at p e is 1 42 before_042 (rule_refuses 42 (le-ltb e 200 (omega arith)))
 
-  module _ (some : e ≢ 200) where
+  module _ (ends : e ≢ 200) where
     pub in_program_lem : e < 200
     in_program_lem = let le = end_within p in omega arith
 
     before_040 : Before (checks p e) 2
     before_040 = one_more (checks p e) 1 (rule_passes 42 (lt-ltb e 200 in_program_lem)) before_042
 
-    module _ (w : Walk) (q : Walked p e w) where
-      pub tangled : w.fault ≡ true → Refused 40 ≡ answer_of (report p)
-      tangled found = refusing p 40 (told_at p e is 2 40 before_040 (rule_refuses 40 (ap not (sym q.fault ∙ found))))
+    module _ (w : Option (List (Option ℕ))) (q : w ≡ walked p e) where
+      pub tangled : w ≡ None → report p ≡ refused 40
+      tangled none = told_at p e is 2 40 before_040 (rule_refuses 40 (ap not (walk_tangled p e (sym q ∙ none))))
 
-      module _ (plain : w.fault ≡ false) where
+      module _ (os : List (Option ℕ)) (some : w ≡ Some os) where
         not_tangled : is_tangled p e ≡ false
-        not_tangled = sym q.fault ∙ plain
+        not_tangled = (walk_plain p e os (sym q ∙ some)).0
 
         before_041 : Before (checks p e) 3
         before_041 = one_more (checks p e) 2 (rule_passes 40 (ap not not_tangled)) before_040
 
-        module _ (b : Bool) (across : b ≡ is_across_one e 200 w.nexts) where
+        module _ (b : Bool) (across : b ≡ is_across_one e 200 os) where
           inside_by : ends_inside p e ≡ b
-          inside_by = inside_is p e (omega (arith, in_program_lem)) ∙ ap (is_across_one e 200) (sym (q.nexts plain)) ∙ sym across
+          inside_by = inside_is p e (omega (arith, in_program_lem)) ∙ ap (is_across_one e 200) (sym (walk_plain p e os (sym q ∙ some)).1) ∙ sym across
 
-          pub ends_inside_lem : b ≡ true → Refused 41 ≡ answer_of (report p)
-          ends_inside_lem found = refusing p 41 (told_at p e is 3 41 before_041 (rule_refuses 41 (ap not (inside_by ∙ found))))
+          pub ends_inside_lem : b ≡ true → report p ≡ refused 41
+          ends_inside_lem found = told_at p e is 3 41 before_041 (rule_refuses 41 (ap not (inside_by ∙ found)))
 
           module _ (outside : b ≡ false) where
             pub nests_so : Nests p 0 e

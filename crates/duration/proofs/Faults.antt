@@ -1,12 +1,13 @@
 -- The walk finds a tangle on the line on which the rule has it.
 -- Assumes nothing.
-use Prim.Native.Nat.{ℕ, zero, suc, ◌-◌, ◌≤◌, ◌<◌}
+use Prim.Native.Nat.{ℕ, ◌-◌, ◌≤◌, ◌<◌}
 use native.Mathlib.Omega.{arith}
 use mathlib.Core.Path.{◌≡◌, refl, sym, ap, ◌∙◌}
 use mathlib.Core.Logic.{◌≢◌}
 use mathlib.Core.Bool.{Bool, true, false, ◌&&◌, ◌||◌, not}
 use mathlib.Core.List.{List}
 use lib.ListN.{get_or}
+use Rattle.std.specs.Prelude.{None}
 use lib.Dec.{leb, ltb, eqb}
 use borrow.Author.Tests.{leb-true, le-leb, ltb-true, lt-ltb, eqb-true, eqb-false, eq-eqb, ne_eqb}
 use Rattle.formats.proofs.Checks.{both_true, either_true, or_true, or_false, and_true, by_both, not_so}
@@ -17,7 +18,7 @@ use Rattle.lines.specs.Searches.{some_before}
 use Rattle.lines.specs.Loops.{next_of, counter_at}
 use Rattle.duration.specs.Loops.{is_inside, crosses, starts_in_own, lacks_next, lacks_for, is_tangled, ends_inside}
 use Rattle.lines.specs.Line.{is_next}
-use Rattle.duration.specs.Walk.{open_at, is_across_one, is_fault}
+use Rattle.duration.specs.Walk.{open_at, is_across_one, is_own, is_fault}
 use Rattle.lines.proofs.Searches.{some_line, line_some, some_same}
 use Rattle.lines.proofs.Pairs.{same_next, counter_ranged, next_ranged, counter_of, begins, counted, of_within, pairs, own_next}
 use Rattle.duration.proofs.Inside.{inside}
@@ -116,15 +117,9 @@ module _ (p : List ℕ) (j : ℕ) where
 
   -- ---- any line
 
-  next_fault : (c : ℕ) → j < 200 → line_at p j ≡ Next c → lacks_for p j ≡ (eqb j 0 || not (eqb (get_or (open_at p j) (c - 1) 0) j))
+  next_fault : (c : ℕ) → j < 200 → line_at p j ≡ Next c → lacks_for p j ≡ not (is_own j (get_or (open_at p j) (c - 1) None))
   unfolding lacks_for
-  next_fault c lt is =
-      let r = next_ranged p j c is in
-      rw (is, has_for p j c lt is r.0 r.1) (turned j (eqb (get_or (open_at p j) (c - 1) 0) j))
-    where
-      turned : (n : ℕ) (b : Bool) → not (ltb 0 n && b) ≡ (eqb n 0 || not b)
-      turned zero b = refl
-      turned (suc n) b = rw (lt-ltb 0 (suc n) (omega arith), ne_eqb (suc n) 0 (λ z. omega arith))
+  next_fault c lt is = let r = next_ranged p j c is in rw (is, has_for p j c lt is r.0 r.1)
 
   no_for_next : (l : Line) → line_at p j ≡ l → is_next l ≡ false → lacks_for p j ≡ false
   unfolding lacks_for

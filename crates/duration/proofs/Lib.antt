@@ -6,7 +6,6 @@ pub mod Number
 pub mod Capping
 pub mod Summing
 pub mod Totals
-pub mod OtherKinds
 pub mod Walks
 pub mod Faults
 pub mod Walking

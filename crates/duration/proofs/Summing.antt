@@ -2,13 +2,13 @@
 -- Assumes nothing.
 use Prim.Native.Nat.{ℕ, ◌+◌, ◌*◌, ◌≤◌, ◌<◌}
 use native.Mathlib.Omega.{arith}
-use native.Mathlib.Nat.{zero-add, zero-mul, mul-zero, mul_comm, mul-le-mul}
-use mathlib.Core.Path.{◌≡◌, refl, sym, ap, ap₂, ◌∙◌}
+use native.Mathlib.Nat.{zero-add}
+use mathlib.Core.Path.{◌≡◌, refl, sym, ap, ◌∙◌}
 use mathlib.Core.Logic.{◌≢◌}
 use mathlib.Core.Bool.{Bool, true, false, ◌&&◌, ◌||◌}
 use mathlib.Core.List.{List}
 use lib.Dec.{leb, ltb, eqb}
-use borrow.Author.Tests.{leb-true, leb-false, le-leb, eqb-true, eqb-false, eq-eqb, ne_eqb, lt-ltb}
+use borrow.Author.Tests.{leb-true, leb-false, le-leb, eqb-true, eqb-false}
 use Rattle.formats.proofs.Checks.{both_true, either_true, or_true, or_false, by_both, not_so}
 use Rattle.lines.specs.declared.Line.{Line}
 use Rattle.lines.specs.declared.Line.TheVariants.{State, For, Next, Bad}
@@ -31,7 +31,7 @@ or_assoc : (a b c : Bool) → (a || b || c) ≡ (a || (b || c))
 or_assoc true b c = refl
 or_assoc false b c = refl
 
-sum_same : {a b : Sum} → a.ticks ≡ b.ticks → a.idle ≡ b.idle → a.bad ≡ b.bad → a ≡ b
+pub sum_same : {a b : Sum} → a.ticks ≡ b.ticks → a.idle ≡ b.idle → a.bad ≡ b.bad → a ≡ b
 sum_same {a} {b} t i d =
     ap (λ n. record { ticks = n; idle = a.idle; bad = a.bad }) t ∙ ap (λ u. record { ticks = b.ticks; idle = u; bad = a.bad }) i
     ∙ ap (λ u. record { ticks = b.ticks; idle = b.idle; bad = u }) d
@@ -185,46 +185,6 @@ module _ (p : List ℕ) where
           sum_same (ap capped one ∙ two) (in_loop (idles_at p) (ltb 0 x && eqb (capped body) 0) loop_idle (idle_at n ends))
           (in_loop (λ k. is_bad (line_at p k)) false (ap is_bad is) (ap is_bad ends)
           ∙ ap (λ u. u || some_in (λ k. is_bad (line_at p k)) (n + 1) j) (or_false (some_in (λ k. is_bad (line_at p k)) (i + 1) n)))
-
--- ---- what the code makes of a sum
-
-module _ (s : Sum) (small : s.ticks ≤ more_ticks) where
-  pub with_state : (o t n : ℕ) (l : Line) → l ≡ State o t → n ≡ capped (s.ticks + t)
-      → record { ticks = n; idle = s.idle; bad = s.bad } ≡ joined s (plain_sum l)
-  unfolding joined
-  with_state o t n l is sum = rw is (sum_same sum (sym (or_false s.idle)) (sym (or_false s.bad)))
-
-  pub with_bad : (l : Line) → l ≡ Bad → record { ticks = s.ticks; idle = s.idle; bad = true } ≡ joined s (plain_sum l)
-  unfolding joined
-  with_bad l is =
-      let z : s.ticks ≡ s.ticks + 0 = omega arith in
-      rw is (sum_same (sym (capped_small most_ticks s.ticks small) ∙ ap capped z) (sym (or_false s.idle)) (sym (or_true s.bad)))
-
-  pub with_other : (l : Line) → plain_sum l ≡ no_sum → s ≡ joined s (plain_sum l)
-  with_other l is = sym (ap (joined s) is ∙ joined_none s small)
-
-  -- a loop of none, one that idles, and any other
-  pub none_repeated : (x : ℕ) → x ≡ 0 → record { ticks = 0; idle = s.idle; bad = s.bad } ≡ repeated x s
-  unfolding repeated
-  none_repeated x is = rw is (sum_same (sym (ap capped (zero-mul s.ticks) ∙ capped_small most_ticks 0 (omega arith))) (sym (or_false s.idle)) refl)
-
-  pub idle_repeated : (x : ℕ) → x ≢ 0 → s.ticks ≡ 0 → record { ticks = s.ticks; idle = true; bad = s.bad } ≡ repeated x s
-  unfolding repeated
-  idle_repeated x some none =
-      let above = lt-ltb 0 x (omega arith) in
-      let z : x * s.ticks ≡ 0 = ap (λ n. x * n) none ∙ mul-zero x in
-      sum_same (none ∙ sym (ap capped z ∙ capped_small most_ticks 0 (omega arith)))
-      (sym (ap₂ (λ a b. s.idle || (a && b)) above (eq-eqb s.ticks 0 none) ∙ or_true s.idle)) refl
-
-  pub some_repeated : (x n : ℕ) → x ≢ 0 → s.ticks ≢ 0 → n ≡ capped (s.ticks * x) → record { ticks = n; idle = s.idle; bad = s.bad } ≡ repeated x s
-  unfolding repeated
-  some_repeated x n some takes is =
-      let above = lt-ltb 0 x (omega arith) in
-      sum_same (is ∙ ap capped (mul_comm s.ticks x))
-      (sym (ap₂ (λ a b. s.idle || (a && b)) above (ne_eqb s.ticks 0 takes) ∙ or_false s.idle)) refl
-
-  pub product_fits : (x : ℕ) → x < 65536 → s.ticks * x < 18446744073709551616
-  product_fits x lt = let le = mul-le-mul {n₁ = s.ticks} {m₁ = x} {n₂ = more_ticks} {m₂ = 65536} small (omega arith) in omega (arith, le)
 
 -- ---- the loop that sums
 

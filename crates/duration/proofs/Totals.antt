@@ -1,6 +1,6 @@
 -- Laws of the grand total: kept up to one more than is told, it tells the same.
 -- Assumes nothing.
-use Prim.Native.Nat.{ℕ, ◌+◌, ◌-◌, ◌≤◌, ◌<◌}
+use Prim.Native.Nat.{ℕ, ◌+◌, ◌≤◌, ◌<◌}
 use native.Mathlib.Omega.{arith}
 use mathlib.Core.Path.{◌≡◌, refl, sym, ap, ◌∙◌}
 use mathlib.Core.Bool.{Bool, true, false}
@@ -8,17 +8,15 @@ use mathlib.Core.List.{List, [], ◌∷◌, ◌++◌}
 use lib.Dec.{leb}
 use borrow.Author.Tests.{leb-true, leb-false, le-leb, lt-leb}
 use Rattle.formats.specs.Checks.{refused, passed, ◌>>◌, ◌or_else◌}
-use Rattle.duration.specs.declared.Answer.{Answer}
-use Rattle.duration.specs.declared.Answer.TheVariants.{Takes, Refused}
-use Rattle.duration.specs.Report.{report, answer_of}
+use Rattle.duration.specs.Report.{report}
 use Rattle.duration.specs.Total.{most_total, adds, grand_total, told_total, capped_total}
 use Rattle.duration.proofs.Capping.{capped_small, capped_large, capped_left}
 
 -- "a refused program adds nothing"
-pub adds_none : (e : ℕ) → adds (Refused e) ≡ 0
+pub adds_none : (e : ℕ) → adds (refused e) ≡ 0
 adds_none e = refl
 
-pub adds_own : (n : ℕ) → adds (Takes n) ≡ n
+pub adds_own : (n : ℕ) → adds (passed n) ≡ n
 adds_own n = refl
 
 -- the grand total: of none 0, and with one program more
@@ -40,20 +38,25 @@ pub none_kept : capped_total (grand_total []) ≡ 0
 none_kept = ap capped_total total_none ∙ capped_small most_total 0 (omega arith)
 
 -- with one program more at the end
-total_last : (ps : List (List ℕ)) (p : List ℕ) → grand_total (ps ++ (p ∷ [])) ≡ grand_total ps + adds (answer_of (report p))
+total_last : (ps : List (List ℕ)) (p : List ℕ) → grand_total (ps ++ (p ∷ [])) ≡ grand_total ps + adds (report p)
 unfolding grand_total
 total_last [] p = omega arith
 total_last (q ∷ qs) p = omega (arith, total_last qs p)
 
 -- and so as it is kept
 pub total_more : (ps : List (List ℕ)) (p : List ℕ)
-    → capped_total (capped_total (grand_total ps) + adds (answer_of (report p))) ≡ capped_total (grand_total (ps ++ (p ∷ [])))
-total_more ps p = capped_left most_total (grand_total ps) (adds (answer_of (report p))) ∙ ap capped_total (sym (total_last ps p))
+    → capped_total (capped_total (grand_total ps) + adds (report p)) ≡ capped_total (grand_total (ps ++ (p ∷ [])))
+total_more ps p = capped_left most_total (grand_total ps) (adds (report p)) ∙ ap capped_total (sym (total_last ps p))
 
 -- more than is told
-refused_over : (m : ℕ) → most_total < m → told_total m ≡ refused 43
+pub refused_over : (m : ℕ) → most_total < m → told_total m ≡ refused 43
 unfolding told_total ◌>>◌ ◌or_else◌
 refused_over m lt = rw (lt-leb m most_total lt)
+
+-- and as much as is told
+pub passed_well : (m : ℕ) → m ≤ most_total → told_total m ≡ passed m
+unfolding told_total ◌>>◌ ◌or_else◌
+passed_well m le = rw (le-leb m most_total le)
 
 -- what is kept tells what the grand total tells
 pub total_told : (n : ℕ) → told_total (capped_total n) ≡ told_total n
@@ -64,26 +67,3 @@ total_told n = go (leb n most_total) refl
     go false e =
         let lt = leb-false n most_total e in
         ap told_total (capped_large most_total n (omega arith)) ∙ refused_over (most_total + 1) (omega arith) ∙ sym (refused_over n lt)
-
--- ---- what the code makes of a total
-
-module _ (t : ℕ) (a : Answer) where
-  pub over_already : most_total < t → most_total + 1 ≡ capped_total (t + adds a)
-  over_already lt = sym (capped_large most_total (t + adds a) (omega arith))
-
-  module _ (le : t ≤ most_total) where
-    pub nothing_more : adds a ≡ 0 → t ≡ capped_total (t + adds a)
-    nothing_more z = let e : t + adds a ≡ t = omega arith in sym (ap capped_total e ∙ capped_small most_total t (omega arith))
-
-    pub now_over : (n : ℕ) → a ≡ Takes n → most_total - t < n → most_total + 1 ≡ capped_total (t + adds a)
-    now_over n is lt = rw is (sym (capped_large most_total (t + n) (omega arith)))
-
-    pub still_told : (n : ℕ) → a ≡ Takes n → n ≤ most_total - t → t + n ≡ capped_total (t + adds a)
-    still_told n is up = rw is (sym (capped_small most_total (t + n) (omega arith)))
-
-pub told_over : (n : ℕ) → most_total < n → Refused 43 ≡ answer_of (told_total n)
-told_over n lt = sym (ap answer_of (refused_over n lt))
-
-pub told_well : (n : ℕ) → n ≤ most_total → Takes n ≡ answer_of (told_total n)
-unfolding told_total ◌>>◌ ◌or_else◌
-told_well n le = rw (le-leb n most_total le)

@@ -4,45 +4,45 @@ use Prim.Native.Nat.{ℕ, zero, suc, ◌-◌, ◌≤◌, ◌<◌}
 use native.Mathlib.Omega.{arith}
 use mathlib.Core.Path.{◌≡◌, refl, sym, ap, ◌∙◌}
 use mathlib.Core.Logic.{◌≢◌}
-use mathlib.Core.Bool.{Bool, true, false, ◌&&◌, ◌||◌}
+use mathlib.Core.Bool.{Bool, true, false, ◌&&◌, false≢true}
 use mathlib.Core.List.{List}
 use lib.ListN.{length, get_or, set, length-set}
 use lib.Seq.{get_or-set_same, get_or-set_other}
 use lib.Dec.{leb, ltb, eqb}
 use borrow.Author.Tests.{ltb-true, lt-ltb, eqb-true, eqb-false, eq-eqb}
-use Rattle.formats.proofs.Checks.{both_true, either_true, or_true, by_both}
+use Rattle.std.specs.Prelude.{Option, None, Some}
+use Rattle.std.proofs.lemmas.List.{get_or_read}
+use Rattle.std.proofs.lemmas.List.Folds.{Any-from_list_any, list_any_at}
+use Rattle.std.proofs.lemmas.Option.{none-some, same_Some}
+use Rattle.formats.proofs.Checks.{both_true, by_both}
 use Rattle.lines.specs.declared.Line.{Line}
 use Rattle.lines.specs.declared.Line.TheVariants.{State, For, Next, Bad}
 use Rattle.lines.specs.Program.{line_at}
 use Rattle.lines.specs.Searches.{some_before}
 use Rattle.lines.specs.Loops.{next_of, counter_at}
 use Rattle.duration.specs.Loops.{is_inside}
-use Rattle.duration.specs.Walk.{opened, open_at, is_across, is_across_one}
+use Rattle.duration.specs.Walk.{opened, open_at, is_across, is_across_one, is_own}
 use Rattle.formats.proofs.Parts.{replicated}
 use Rattle.lines.proofs.Searches.{some_line, line_some}
 use Rattle.formats.proofs.Order.{last_or_before}
 use Rattle.lines.proofs.Pairs.{same_next, counter_ranged, counter_of, begins_so, next_by, counted, pairs, later_next}
 use Rattle.duration.proofs.Inside.{inside, is_inside_lem}
 
--- ---- one of four
+-- ---- one of the open loops
 
-one_of : (i n : ℕ) (os : List ℕ) (d : ℕ) → d < 4 → is_across i n (get_or os d 0) ≡ true → is_across_one i n os ≡ true
-unfolding is_across_one
-one_of i n os zero lt e = rw e
-one_of i n os (suc zero) lt e = rw (e, or_true (is_across i n (get_or os 0 0)))
-one_of i n os (suc (suc zero)) lt e = rw (e, or_true (is_across i n (get_or os 0 0) || is_across i n (get_or os 1 0)))
-one_of i n os (suc (suc (suc zero))) lt e = rw (e, or_true (is_across i n (get_or os 0 0) || is_across i n (get_or os 1 0) || is_across i n (get_or os 2 0)))
-one_of i n os (suc (suc (suc (suc d)))) lt e = absurd (omega arith)
-
-of_one : {X : Type 0} (i n : ℕ) (os : List ℕ) → is_across_one i n os ≡ true → ((d : ℕ) → d < 4 → is_across i n (get_or os d 0) ≡ true → X) → X
-unfolding is_across_one
-of_one i n os e h =
-    either_true _ _ e (λ e. either_true _ _ e (λ e. either_true _ _ e (h 0 (omega arith)) (h 1 (omega arith))) (h 2 (omega arith))) (h 3 (omega arith))
+-- a loop that is across is the loop of a counter
+of_one : {X : Type 0} (i n : ℕ) (os : List (Option ℕ)) → is_across_one i n os ≡ true
+    → ((d o : ℕ) → d < length os → get_or os d None ≡ Some o → i < o → leb o n ≡ true → X) → X
+of_one {X} i n os e h = let (d, x, lt, is, test) = Any-from_list_any (is_across i n) os e in go d x lt (sym (get_or_read os d x lt (sym is) None)) test
+  where
+    go : (d : ℕ) (x : Option ℕ) → d < length os → get_or os d None ≡ x → is_across i n x ≡ true → X
+    go d None lt is test = absurd (false≢true test)
+    go d (Some o) lt is test = let b = both_true (ltb i o) (leb o n) test in h d o lt is (ltb-true i o b.0) b.1
 
 module _ (p : List ℕ) where
-  at_first : (d : ℕ) → get_or (open_at p 0) d 0 ≡ 0
+  at_first : (d : ℕ) → get_or (open_at p 0) d None ≡ None
   unfolding open_at
-  at_first d = replicated 4 0 d
+  at_first d = replicated 4 None d
 
   open_length : (i : ℕ) → length (open_at p i) ≡ 4
   unfolding open_at
@@ -51,28 +51,28 @@ module _ (p : List ℕ) where
     where
       go : (l : Line) → length (open_at p i) ≡ 4 → length (opened l (next_of p i) (open_at p i)) ≡ 4
       go (State o t) e = e
-      go (For c x) e = length-set (open_at p i) (c - 1) (next_of p i) ∙ e
+      go (For c x) e = length-set (open_at p i) (c - 1) (Some (next_of p i)) ∙ e
       go (Next c) e = e
       go Bad e = e
 
   -- what the next line leaves for a counter: its own Next, if it is a For of that counter,
-  open_own : (i d : ℕ) → counter_at p i ≡ suc d → d < 4 → get_or (open_at p (suc i)) d 0 ≡ next_of p i
+  open_own : (i d : ℕ) → counter_at p i ≡ suc d → d < 4 → get_or (open_at p (suc i)) d None ≡ Some (next_of p i)
   unfolding open_at
   open_own i d is lt = begins_so p i (omega arith) λ c x at.
       let same : c - 1 ≡ d = let z = sym (counter_of p i at) ∙ is in omega arith in
-      ap (λ l. get_or (opened l (next_of p i) (open_at p i)) d 0) at ∙ ap (λ n. get_or (set (open_at p i) n (next_of p i)) d 0) same
-      ∙ get_or-set_same (open_at p i) d (next_of p i) 0 (omega (arith, open_length i))
+      ap (λ l. get_or (opened l (next_of p i) (open_at p i)) d None) at ∙ ap (λ n. get_or (set (open_at p i) n (Some (next_of p i))) d None) same
+      ∙ get_or-set_same (open_at p i) d (Some (next_of p i)) None (omega (arith, open_length i))
 
   -- and else what was there
-  open_other : (i d : ℕ) → counter_at p i ≢ suc d → get_or (open_at p (suc i)) d 0 ≡ get_or (open_at p i) d 0
+  open_other : (i d : ℕ) → counter_at p i ≢ suc d → get_or (open_at p (suc i)) d None ≡ get_or (open_at p i) d None
   unfolding open_at
   open_other i d other = go (line_at p i) refl
     where
-      go : (l : Line) → line_at p i ≡ l → get_or (opened l (next_of p i) (open_at p i)) d 0 ≡ get_or (open_at p i) d 0
+      go : (l : Line) → line_at p i ≡ l → get_or (opened l (next_of p i) (open_at p i)) d None ≡ get_or (open_at p i) d None
       go (State o t) e = refl
       go (For c x) e =
           let r = counter_ranged p i c x e in
-          get_or-set_other (open_at p i) (c - 1) d (next_of p i) 0 (λ same. other (counter_of p i e ∙ up c d r.0 same))
+          get_or-set_other (open_at p i) (c - 1) d (Some (next_of p i)) None (λ same. other (counter_of p i e ∙ up c d r.0 same))
         where
           up : (c d : ℕ) → 1 ≤ c → d ≡ c - 1 → c ≡ suc d
           up c d le z = omega arith
@@ -80,31 +80,31 @@ module _ (p : List ℕ) where
       go Bad e = refl
 
   -- The Next of a For stands open up to it,
-  stays_open : (k d : ℕ) → counter_at p k ≡ suc d → d < 4 → (i : ℕ) → k < i → i ≤ 200 → i ≤ next_of p k → get_or (open_at p i) d 0 ≡ next_of p k
+  stays_open : (k d : ℕ) → counter_at p k ≡ suc d → d < 4 → (i : ℕ) → k < i → i ≤ 200 → i ≤ next_of p k → get_or (open_at p i) d None ≡ Some (next_of p k)
   stays_open k d is lt zero after le to = absurd (omega arith)
   stays_open k d is lt (suc m) after le to =
-      last_or_before k m after (λ z. ap (λ i. get_or (open_at p (suc i)) d 0) (sym z) ∙ open_own k d is lt)
+      last_or_before k m after (λ z. ap (λ i. get_or (open_at p (suc i)) d None) (sym z) ∙ open_own k d is lt)
       (λ before. go (eqb (counter_at p m) (suc d)) refl before (stays_open k d is lt m before (omega arith) (omega arith)))
     where
-      go : (t : Bool) → eqb (counter_at p m) (suc d) ≡ t → k < m → get_or (open_at p m) d 0 ≡ next_of p k → get_or (open_at p (suc m)) d 0 ≡ next_of p k
+      go : (t : Bool) → eqb (counter_at p m) (suc d) ≡ t → k < m → get_or (open_at p m) d None ≡ Some (next_of p k) → get_or (open_at p (suc m)) d None ≡ Some (next_of p k)
       go true e before there =
           let own = eqb-true (counter_at p m) (suc d) e in
           let at-k = next_by p k is (omega arith) in
-          open_own m d own lt ∙ next_by p m own (omega arith) ∙ later_next p (suc d) k m before (omega arith) (omega arith) ∙ sym at-k
+          open_own m d own lt ∙ ap Some (next_by p m own (omega arith) ∙ later_next p (suc d) k m before (omega arith) (omega arith) ∙ sym at-k)
       go false e before there = open_other m d (eqb-false (counter_at p m) (suc d) e) ∙ there
 
   -- and what stands open is the Next of a For
-  was_opened : {X : Type 0} (i d : ℕ) → d < 4 → 0 < get_or (open_at p i) d 0
-      → ((k : ℕ) → k < i → counter_at p k ≡ suc d → next_of p k ≡ get_or (open_at p i) d 0 → X) → X
-  was_opened zero d lt above h = absurd (omega (arith, at_first d, above))
-  was_opened {X} (suc i) d lt above h = go (eqb (counter_at p i) (suc d)) refl (λ up g. was_opened i d lt up g)
+  was_opened : {X : Type 0} (i d n : ℕ) → d < 4 → get_or (open_at p i) d None ≡ Some n
+      → ((k : ℕ) → k < i → counter_at p k ≡ suc d → next_of p k ≡ n → X) → X
+  was_opened zero d n lt is h = absurd (none-some n (sym (at_first d) ∙ is))
+  was_opened {X} (suc i) d n lt is h = go (eqb (counter_at p i) (suc d)) refl (λ there g. was_opened i d n lt there g)
     where
       go : (t : Bool) → eqb (counter_at p i) (suc d) ≡ t
-          → (0 < get_or (open_at p i) d 0 → ((k : ℕ) → k < i → counter_at p k ≡ suc d → next_of p k ≡ get_or (open_at p i) d 0 → X) → X) → X
-      go true e rest = let own = eqb-true (counter_at p i) (suc d) e in h i (omega arith) own (sym (open_own i d own lt))
+          → (get_or (open_at p i) d None ≡ Some n → ((k : ℕ) → k < i → counter_at p k ≡ suc d → next_of p k ≡ n → X) → X) → X
+      go true e rest = let own = eqb-true (counter_at p i) (suc d) e in h i (omega arith) own (same_Some _ _ (sym (open_own i d own lt) ∙ is))
       go false e rest =
           let other = open_other i d (eqb-false (counter_at p i) (suc d) e) in
-          rest (rw other at above) (λ k before is next. h k (omega arith) is (next ∙ sym other))
+          rest (sym other ∙ is) (λ k before is next. h k (omega arith) is next)
 
   -- ---- what that says
 
@@ -117,19 +117,17 @@ module _ (p : List ℕ) where
         let in_it = inside p k i b.0 in
         counted p k (omega (arith, in_it.1)) λ d few is.
         let stands = stays_open k d is few i lt le (omega (arith, in_it.1)) in
-        one_of i n (open_at p i) d few (rw (stands, lt-ltb i (next_of p k) in_it.1, b.1)))
-        (λ e. of_one i n (open_at p i) e λ d few t.
-        let b = both_true (ltb i (get_or (open_at p i) d 0)) (leb (get_or (open_at p i) d 0) n) t in
-        let above = ltb-true i (get_or (open_at p i) d 0) b.0 in
-        was_opened i d few (omega arith) λ k lt is next.
-        line_some (λ k. is_inside p k i && leb (next_of p k) n) i k lt (rw (is_inside_lem p k i lt (omega arith), next) b.1))
+        list_any_at (is_across i n) (open_at p i) d None (omega (arith, open_length i)) (rw (stands, lt-ltb i (next_of p k) in_it.1) b.1))
+        (λ e. of_one i n (open_at p i) e λ d o few stands above t.
+        was_opened i d o (omega (arith, open_length i)) stands λ k lt is next.
+        line_some (λ k. is_inside p k i && leb (next_of p k) n) i k lt (rw (is_inside_lem p k i lt (omega arith), next) t))
 
   -- the Next on line i has a For
   pub has_for : (i c : ℕ) → i < 200 → line_at p i ≡ Next c → 1 ≤ c → c ≤ 4
-      → some_before (λ k. eqb (next_of p k) i) i ≡ (ltb 0 i && eqb (get_or (open_at p i) (c - 1) 0) i)
-  has_for i c up is low high = by_both _ _ there back
+      → some_before (λ k. eqb (next_of p k) i) i ≡ is_own i (get_or (open_at p i) (c - 1) None)
+  has_for i c up is low high = by_both _ _ there (back (get_or (open_at p i) (c - 1) None) refl)
     where
-      there : some_before (λ k. eqb (next_of p k) i) i ≡ true → (ltb 0 i && eqb (get_or (open_at p i) (c - 1) 0) i) ≡ true
+      there : some_before (λ k. eqb (next_of p k) i) i ≡ true → is_own i (get_or (open_at p i) (c - 1) None) ≡ true
       there e = some_line (λ k. eqb (next_of p k) i) i e λ k lt t.
           let next : next_of p k ≡ i = eqb-true (next_of p k) i t in
           counted p k (omega arith) λ d few own.
@@ -137,12 +135,11 @@ module _ (p : List ℕ) where
           let first = pairs p k (omega arith) at (λ z. omega arith) in
           let same : c ≡ b = same_next (sym is ∙ ap (line_at p) (sym next) ∙ first.next) in
           let index : c - 1 ≡ d = let z = counter_of p k at in omega arith in
-          let stands = stays_open k d own few i lt (omega arith) (omega arith) ∙ next in
-          rw (index, lt-ltb 0 i (omega arith), stands) (eq-eqb i i refl)
+          let stands = stays_open k d own few i lt (omega arith) (omega arith) ∙ ap Some next in
+          rw (index, stands) (eq-eqb i i refl)
 
-      back : (ltb 0 i && eqb (get_or (open_at p i) (c - 1) 0) i) ≡ true → some_before (λ k. eqb (next_of p k) i) i ≡ true
-      back e =
-          let b = both_true (ltb 0 i) (eqb (get_or (open_at p i) (c - 1) 0) i) e in
-          let at = eqb-true (get_or (open_at p i) (c - 1) 0) i b.1 in
-          let above = ltb-true 0 i b.0 in
-          was_opened i (c - 1) (omega arith) (omega arith) λ k lt own next. line_some (λ k. eqb (next_of p k) i) i k lt (eq-eqb (next_of p k) i (next ∙ at))
+      back : (o : Option ℕ) → get_or (open_at p i) (c - 1) None ≡ o → is_own i o ≡ true → some_before (λ k. eqb (next_of p k) i) i ≡ true
+      back None stands e = absurd (false≢true e)
+      back (Some n) stands e =
+          let at : n ≡ i = eqb-true n i e in
+          was_opened i (c - 1) n (omega arith) stands λ k lt own next. line_some (λ k. eqb (next_of p k) i) i k lt (eq-eqb (next_of p k) i (next ∙ at))

@@ -1,5 +1,6 @@
 pub mod Loops
 pub mod Ticks
+pub mod Refusals
 pub mod Report
 pub mod Total
 pub mod ByTheRule

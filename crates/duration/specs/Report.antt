@@ -1,9 +1,7 @@
 -- The report: how many ticks a program takes, or why that is not told.
 -- 02, item 6: "the exact number of unpaused ticks from a start at line 000 to event 011", "Refusals, first that applies".
 use Rattle.std.specs.Prelude.{ℕ, ◌+◌, min, not, List, ltb, leb}
-use Rattle.formats.specs.Checks.{Res, refused, passed, ◌>>◌, ◌or_else◌}
-use Rattle.duration.specs.declared.Answer.{Answer}
-use Rattle.duration.specs.declared.Answer.TheVariants.{Takes, Refused}
+use Rattle.formats.specs.Checks.{Res, passed, ◌>>◌, ◌or_else◌}
 use Rattle.lines.specs.Program.{is_program}
 use Rattle.lines.specs.Loops.{end_line}
 use Rattle.duration.specs.Loops.{is_tangled, ends_inside}
@@ -33,8 +31,3 @@ unfoldable pub report : List ℕ → Res ℕ
 report p = do
   is_program p or_else 30
   report_to p (end_line p)
-
--- what the code answers
-abbrev pub answer_of : Res ℕ → Answer
-answer_of (refused e) = Refused e
-answer_of (passed n) = Takes n

@@ -3,44 +3,62 @@
 #![tactic(auto)]
 
 ghost use Rattle.std.specs.Prelude.{◌≡◌, ◌+◌};
-ghost use Rattle.duration.specs.Report.{report, answer_of};
+ghost use Rattle.formats.specs.Numbers.{res_of};
+ghost use Rattle.duration.specs.Refusals.{number_of as number_of_refusal, distinct as distinct_refusals};
+ghost use Rattle.duration.specs.Report.{report};
 ghost use Rattle.duration.specs.Total.{adds, capped_total, told_total};
+
+use formats::Numbered;
 
 mod nesting;
 mod sums;
 
-// The ticks that a program takes, or the number of the refusal.
-#[derive(Clone, Copy)]
-pub enum Answer {
-    Takes(u64),
-    Refused(u8),
+// Why it is not told how long a program takes.
+#[derive(Clone, Copy, Debug, PartialEq, Eq)]
+pub enum Refusal {
+    // a Bad line before the end
+    BadLine = 14,
+    // not of 1,600 bytes
+    NotProgram = 30,
+    // loops that cross, or one without its For or its Next
+    Tangled = 40,
+    // the end is inside a loop
+    EndInLoop = 41,
+    // no State with time 0
+    NoEnd = 42,
+    // more ticks than are told, of a program or in all
+    TooLong = 43,
+    // a loop whose body takes no tick
+    IdleLoop = 44,
+}
+
+impl Numbered for Refusal {
+    ghost number_of = { number_of_refusal };
+
+    fn number(self) -> u8 {
+        self as u8
+    }
+
+    ghost distinct = { distinct_refusals };
 }
 
 // The most ticks that are told.
 pub const MOST_TICKS: u64 = 9999999999;
 
 // How long a program takes, or the first refusal that applies, whatever the bytes are and however many.
-pub fn report(p: &[u8]) -> Answer
-    ensures answer { result ≡ answer_of (report p.now) }
+pub fn report(p: &[u8]) -> Result<u64, Refusal>
+    ensures answer { res_of number_of_refusal result ≡ report p.now }
 {
     if p.len() != lines::PROGRAM {
-        return Answer::Refused(30);
+        return Err(Refusal::NotProgram);
     }
-    let end = lines::end_line(p);
-    if end == 200 {
-        return Answer::Refused(42);
-    }
-    let walk = nesting::walked(p, end);
-    if walk.fault {
-        return Answer::Refused(40);
-    }
-    let nexts = walk.nexts;
+    let end = lines::end_line(p).ok_or(Refusal::NoEnd)?;
+    let nexts = nesting::walked(p, end).ok_or(Refusal::Tangled)?;
     // the end is inside an open loop, however far its Next is
     if nesting::is_across_one(end, 200, nexts) {
-        return Answer::Refused(41);
+        return Err(Refusal::EndInLoop);
     }
-    let sum = sums::sequence(p, 0, end as usize);
-    sum.told()
+    sums::sequence(p, 0, end as usize).told()
 }
 
 // ---- the grand total of programs one behind the other
@@ -49,27 +67,22 @@ pub fn report(p: &[u8]) -> Answer
 pub const MOST_TOTAL: u64 = 10 * MOST_TICKS;
 
 // The total so far with one program more: a refused one adds nothing. One more than is told stands for any number above it.
-pub fn total_with(total: u64, answer: Answer) -> u64
-    ensures total { result ≡ capped_total (total + adds answer) }
+#[tactic(auto, unfolding(crate::specs::Report::capped_at))]
+pub fn total_with(total: u64, answer: Result<u64, Refusal>) -> u64
+    ensures total { result ≡ capped_total (total + adds (res_of number_of_refusal answer)) }
 {
-    if MOST_TOTAL < total {
-        return MOST_TOTAL + 1;
-    }
-    let Answer::Takes(n) = answer else {
-        return total;
-    };
-    if MOST_TOTAL - total < n {
-        return MOST_TOTAL + 1;
-    }
-    total + n
+    total
+        .saturating_add(answer.unwrap_or(0))
+        .min(MOST_TOTAL + 1)
 }
 
 // The grand total, or its refusal.
-pub fn total_told(total: u64) -> Answer
-    ensures answer { result ≡ answer_of (told_total total) }
+#[tactic(auto, using(crate::proofs::Totals::refused_over, crate::proofs::Totals::passed_well))]
+pub fn total_told(total: u64) -> Result<u64, Refusal>
+    ensures answer { res_of number_of_refusal result ≡ told_total total }
 {
     if MOST_TOTAL < total {
-        return Answer::Refused(43);
+        return Err(Refusal::TooLong);
     }
-    Answer::Takes(total)
+    Ok(total)
 }

@@ -1,15 +1,16 @@
 // The ticks of a run of lines: it is summed, and a loop is its count times the run of lines inside it. Definitions: specs/Ticks.antt, and
 // specs/Summing.antt for what is kept of a sum.
-ghost use Rattle.std.specs.Prelude.{◌≡◌, ◌||◌, ◌+◌, ◌≤◌, ◌<◌};
+ghost use Rattle.std.specs.Prelude.{◌≡◌, ◌+◌, ◌≤◌, ◌<◌};
+ghost use Rattle.formats.specs.Numbers.{res_of};
 ghost use Rattle.lines.specs.Program.{IsProgram};
-ghost use Rattle.duration.specs.Report.{answer_of};
+ghost use Rattle.duration.specs.Refusals.{number_of};
 ghost use Rattle.duration.specs.Summing.{more_ticks, capped, no_sum, plain_sum, joined, repeated, sum_of, told_of, Nests};
 
-use crate::Answer;
+use crate::Refusal;
 use lines::Line;
 
 // The ticks of a run of lines, up to one more than are told, and whether an idle loop, or a Bad line, is in it.
-#[derive(Clone, Copy)]
+#[derive(Clone, Copy, Default)]
 pub struct Sum {
     pub ticks: u64,
     pub idle: bool,
@@ -19,96 +20,64 @@ pub struct Sum {
 // One more than the most ticks that are told: it stands for any number above them.
 const MORE: u64 = crate::MOST_TICKS + 1;
 
-// No lines.
-fn none() -> Sum
-    ensures sum { result ≡ no_sum }
-{
-    Sum {
-        ticks: 0,
-        idle: false,
-        bad: false,
-    }
-}
-
-// Ticks up to one more than are told.
-fn capped(n: u64) -> u64
-    ensures ticks { result ≡ capped n }
-{
-    if MORE < n {
-        return MORE;
-    }
-    n
-}
-
-// One of two, or both.
-fn either(a: bool, b: bool) -> bool
-    ensures test { result ≡ (a || b) }
-{
-    if a {
-        return true;
-    }
-    b
-}
-
 impl Sum {
     // A line behind it that begins no loop.
-    fn with_line(mut self, line: Line) -> Sum
+    #[tactic(auto, unfolding(crate::specs::Summing::joined, crate::specs::Report::capped_at))]
+    fn with_line(self, line: Line) -> Sum
         requires { self.ticks ≤ more_ticks }
         ensures sum { result ≡ joined self (plain_sum line) }
     {
-        if let Line::State { outputs: _, time } = line {
-            self.ticks = capped(self.ticks + time as u64);
-            return self;
+        match line {
+            Line::State { outputs: _, time } => Sum {
+                ticks: (self.ticks + time as u64).min(MORE),
+                ..self
+            },
+            Line::Bad => Sum { bad: true, ..self },
+            Line::For { .. } | Line::Next { .. } => self,
         }
-        if let Line::Bad = line {
-            self.bad = true;
-            return self;
-        }
-        self
     }
 
     // Another sum behind it.
+    #[tactic(auto, unfolding(crate::specs::Summing::joined, crate::specs::Report::capped_at))]
     fn joined(self, s: Sum) -> Sum
         requires { (self.ticks ≤ more_ticks) × (s.ticks ≤ more_ticks) }
         ensures sum { result ≡ joined self s }
     {
-        let ticks = capped(self.ticks + s.ticks);
-        let idle = either(self.idle, s.idle);
-        let bad = either(self.bad, s.bad);
-        Sum { ticks, idle, bad }
+        Sum {
+            ticks: (self.ticks + s.ticks).min(MORE),
+            idle: self.idle || s.idle,
+            bad: self.bad || s.bad,
+        }
     }
 
     // So many times.
-    fn repeated(mut self, count: u16) -> Sum
+    #[tactic(auto, unfolding(crate::specs::Summing::repeated, crate::specs::Report::capped_at))]
+    fn repeated(self, count: u16) -> Sum
         requires { self.ticks ≤ more_ticks }
         ensures sum { result ≡ repeated count self }
     {
-        if count == 0 {
-            self.ticks = 0;
-            return self;
+        Sum {
+            ticks: (self.ticks * count as u64).min(MORE),
+            idle: self.idle || 0 < count && self.ticks == 0,
+            bad: self.bad,
         }
-        if self.ticks == 0 {
-            self.idle = true;
-            return self;
-        }
-        self.ticks = capped(self.ticks * count as u64);
-        self
     }
 
     // What is told of a program with this sum up to its end: the last three refusals, or its ticks.
-    pub fn told(self) -> Answer
-        ensures answer { result ≡ answer_of (told_of self) }
+    #[tactic(auto, using(crate::proofs::Answers::idle_told, crate::proofs::Answers::bad_told, crate::proofs::Answers::over_told, crate::proofs::Answers::ticks_told))]
+    pub fn told(self) -> Result<u64, Refusal>
+        ensures answer { res_of number_of result ≡ told_of self }
     {
         if self.idle {
-            return Answer::Refused(44);
+            return Err(Refusal::IdleLoop);
         }
         if self.bad {
-            return Answer::Refused(14);
+            return Err(Refusal::BadLine);
         }
         if crate::MOST_TICKS < self.ticks {
-            return Answer::Refused(43);
+            return Err(Refusal::TooLong);
         }
-        Answer::Takes(self.ticks)
+        Ok(self.ticks)
     }
 }
 
@@ -118,14 +87,14 @@ pub fn sequence(p: &[u8], at: usize, end: usize) -> Sum
     requires { IsProgram p.now × (end ≤ 200) × (Nests p.now at end) }
     ensures sum { result ≡ sum_of p.now at end }
 {
-    let mut sum = none();
+    let mut sum = Sum::default();
     let mut i = at;
+    // Kept: behind a loop the line after its Next comes, a step that no range makes; an iterator of such steps would be no plainer.
     while i < end {
         let line = lines::line_at(p, i);
         if let Line::For { counter, count } = line {
-            let n = lines::next_after(p, counter, i as u8) as usize;
-            let inside = looped(p, i, n, count);
-            sum = sum.joined(inside);
+            let n = lines::next_after(p, counter, i as u8).unwrap() as usize;
+            sum = sum.joined(looped(p, i, n, count));
             i = n + 1;
         } else {
             sum = sum.with_line(line);
@@ -141,6 +110,5 @@ fn looped(p: &[u8], at: usize, n: usize, count: u16) -> Sum
     requires { IsProgram p.now × (at < n) × (n < 200) × (Nests p.now (at + 1) n) }
     ensures sum { result ≡ repeated count (sum_of p.now (at + 1) n) }
 {
-    let inside = sequence(p, at + 1, n);
-    inside.repeated(count)
+    sequence(p, at + 1, n).repeated(count)
 }

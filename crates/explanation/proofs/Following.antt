@@ -7,7 +7,6 @@ use mathlib.Core.Logic.{◌≢◌}
 use mathlib.Core.Bool.{true, false}
 use mathlib.Core.List.{List}
 use borrow.Author.Tests.{ne_eqb}
-use Rattle.formats.specs.Checks.{passed}
 use Rattle.running.specs.declared.Run.{Run}
 use Rattle.running.specs.declared.Ran.{Ran}
 use Rattle.running.specs.Running.{begun, waiting, stopped, onward, run_due, start, tick}
@@ -16,8 +15,8 @@ use Rattle.running.specs.Moments.{last_due}
 use Rattle.running.specs.Due.{freed, Due}
 use Rattle.running.proofs.Freeing.{freed_rests, freed_ends, freed_line}
 use Rattle.running.proofs.Invariant.{goes_on, still}
-use Rattle.explanation.specs.declared.Answer.TheVariants.{Running, Stopped}
-use Rattle.explanation.specs.Report.{did, held_at, first_due, stop_of, outcome, answer_of}
+use Rattle.std.specs.Prelude.{None, Some}
+use Rattle.explanation.specs.Report.{did, held_at, first_due, stop_of, outcome}
 use Rattle.explanation.specs.NextDue.{NextDue}
 use Rattle.explanation.proofs.Ticks.{did_start, did_kept, told_on, waits_some, skips_to, skips_held, skips_runs}
 use Rattle.explanation.proofs.Searched.{stops_there, still_there, outcome_stops, outcome_runs}
@@ -89,17 +88,16 @@ module _ (p : List ℕ) (k limit : ℕ) where
           }
 
       -- else it still runs
-      pub still_running : limit - n < ran.run.wait → Running ≡ answer_of (passed (outcome p k 0 limit))
+      pub still_running : limit - n < ran.run.wait → None ≡ outcome p k 0 limit
       still_running lt =
-          sym (ap (λ x. answer_of (passed x))
-          (outcome_runs p k 0 limit (still_there p k 0 limit λ m le. skips_runs p k 0 n did_on f.before m (omega (arith, wait_is, f.within)))))
+          sym (outcome_runs p k 0 limit (still_there p k 0 limit λ m le. skips_runs p k 0 n did_on f.before m (omega (arith, wait_is, f.within))))
 
     -- ---- with one
 
-    pub has_stopped : ran.event ≢ 0 → Stopped (stop_of p n held (freed ran)) ≡ answer_of (passed (outcome p k 0 limit))
+    pub has_stopped : ran.event ≢ 0 → Some (stop_of p n held (freed ran)) ≡ outcome p k 0 limit
     unfolding stopped
     has_stopped some =
         let off : (did p k 0 n).run.on ≡ false = ap (λ (x : Ran). x.run.on) (sym f.now ∙ freed_ends ran some) in
         let there = stops_there p k 0 limit n f.within off f.before in
-        ap Stopped (ap (λ (h : Run). stop_of p n h (freed ran)) f.last ∙ ap (stop_of p n (held_at p k 0 n)) f.now)
-        ∙ sym (ap (λ x. answer_of (passed x)) (outcome_stops p k 0 limit n there f.within))
+        ap Some (ap (λ (h : Run). stop_of p n h (freed ran)) f.last ∙ ap (stop_of p n (held_at p k 0 n)) f.now)
+        ∙ sym (outcome_stops p k 0 limit n there f.within)

@@ -1,6 +1,5 @@
-pub mod OtherKinds
+pub mod Onward
 pub mod Above
-pub mod AtLine
 pub mod Ticks
 pub mod Searched
 pub mod Following

@@ -12,15 +12,15 @@ use Rattle.formats.specs.Checks.{refused, passed, ◌or_else◌, in_order}
 use Rattle.formats.proofs.Checks.{rule_passes, rule_refuses, rule_holds, passed_same}
 use Rattle.formats.proofs.Refusals.{Check, Before, none_before_lem, one_more, told_at, told_well, passed_all}
 use Rattle.lines.specs.Program.{is_program, IsProgram}
-use Rattle.explanation.specs.declared.Answer.{Answer}
-use Rattle.explanation.specs.declared.Answer.TheVariants.{Refused}
-use Rattle.explanation.specs.Report.{most_limit, Outcome, outcome, report, answer_of}
+use Rattle.std.specs.Prelude.{Option}
+use Rattle.explanation.specs.declared.Stop.{Stop}
+use Rattle.explanation.specs.Report.{most_limit, outcome, report}
 
 module _ (p : List ℕ) (k limit : ℕ) where
   abbrev pub cs : List Check
   cs = (is_program p or_else 30) ∷ (ltb k 200 or_else 60) ∷ (leb limit most_limit or_else 61) ∷ []
 
-  abbrev pub value : Outcome
+  abbrev pub value : Option Stop
   value = outcome p k 0 limit
 
   pub by_checks : report p k limit ≡ in_order cs (passed value)
@@ -43,7 +43,7 @@ module _ (p : List ℕ) (k limit : ℕ) where
       (one_more cs 1 (rule_passes 60 (lt-ltb k 200 f.line))
       (one_more cs 0 (rule_passes 30 (eq-eqb (length p) 1600 f.program)) (none_before_lem cs))))
 
-  pub told_fit : (a : Outcome) → report p k limit ≡ passed a → Fit
+  pub told_fit : (a : Option Stop) → report p k limit ≡ passed a → Fit
   told_fit a is =
       let all = passed_all cs value (sym by_checks ∙ is) in
       record {
@@ -52,30 +52,27 @@ module _ (p : List ℕ) (k limit : ℕ) where
         few = leb-true limit most_limit (rule_holds _ 61 (all 2 (omega arith)));
       }
 
-  pub told_outcome : (a : Outcome) → report p k limit ≡ passed a → outcome p k 0 limit ≡ a
+  pub told_outcome : (a : Option Stop) → report p k limit ≡ passed a → outcome p k 0 limit ≡ a
   told_outcome a is = passed_same (sym (fit_told (told_fit a is)) ∙ is)
 
   -- ---- the code's tests
 
-  refusing : (r : ℕ) → report p k limit ≡ refused r → Refused r ≡ answer_of (report p k limit)
-  refusing r is = sym (ap answer_of is)
-
-  pub no_program : length p ≢ 1600 → Refused 30 ≡ answer_of (report p k limit)
-  no_program ne = refusing 30 (by_checks ∙ told_at cs (passed value) 0 30 (none_before_lem cs) (rule_refuses 30 (ne_eqb (length p) 1600 ne)))
+  pub no_program : length p ≢ 1600 → report p k limit ≡ refused 30
+  no_program ne = by_checks ∙ told_at cs (passed value) 0 30 (none_before_lem cs) (rule_refuses 30 (ne_eqb (length p) 1600 ne))
 
   module _ (size : length p ≡ 1600) where
     one : Before cs 1
     one = one_more cs 0 (rule_passes 30 (eq-eqb (length p) 1600 size)) (none_before_lem cs)
 
-    pub no_line : 199 < k → Refused 60 ≡ answer_of (report p k limit)
-    no_line above = refusing 60 (by_checks ∙ told_at cs (passed value) 1 60 one (rule_refuses 60 (le-ltb k 200 (omega arith))))
+    pub no_line : 199 < k → report p k limit ≡ refused 60
+    no_line above = by_checks ∙ told_at cs (passed value) 1 60 one (rule_refuses 60 (le-ltb k 200 (omega arith)))
 
     module _ (inside : k ≤ 199) where
       two : Before cs 2
       two = one_more cs 1 (rule_passes 60 (lt-ltb k 200 (omega arith))) one
 
-      pub no_limit : most_limit < limit → Refused 61 ≡ answer_of (report p k limit)
-      no_limit above = refusing 61 (by_checks ∙ told_at cs (passed value) 2 61 two (rule_refuses 61 (lt-leb limit most_limit above)))
+      pub no_limit : most_limit < limit → report p k limit ≡ refused 61
+      no_limit above = by_checks ∙ told_at cs (passed value) 2 61 two (rule_refuses 61 (lt-leb limit most_limit above))
 
-      pub well_told : limit ≤ most_limit → {a : Answer} → a ≡ answer_of (passed (outcome p k 0 limit)) → a ≡ answer_of (report p k limit)
-      well_told few is = is ∙ sym (ap answer_of (fit_told (record { program = size; line = omega arith; few = few })))
+      pub well_told : limit ≤ most_limit → report p k limit ≡ passed (outcome p k 0 limit)
+      well_told few = fit_told (record { program = size; line = omega arith; few = few })

@@ -10,7 +10,9 @@ use Rattle.formats.specs.Checks.{refused, passed}
 use Rattle.formats.specs.Order.{First}
 use Rattle.formats.proofs.Checks.{rule_refuses, rule_fails}
 use Rattle.formats.proofs.Refusals.{Check, check_at, Worded, told_first, first_told, passed_none}
-use Rattle.explanation.specs.Report.{most_limit, Outcome, report}
+use Rattle.std.specs.Prelude.{Option}
+use Rattle.explanation.specs.declared.Stop.{Stop}
+use Rattle.explanation.specs.Report.{most_limit, report}
 use Rattle.explanation.proofs.Order.{cs, value, by_checks}
 use Rattle.explanation.specs.Reasons.{Reason, e030, e060, e061, place}
 
@@ -62,7 +64,7 @@ module _ (p : List ℕ) (k limit : ℕ) where
   first_refused r f = by_checks p k limit ∙ first_told worded (value p k limit) r f
 
   -- Where a reason holds, nothing is told of the program.
-  pub reason_refuses : (r : ℕ) (a : Outcome) → Reason p k limit r → report p k limit ≡ passed a → ⊥
+  pub reason_refuses : (r : ℕ) (a : Option Stop) → Reason p k limit r → report p k limit ≡ passed a → ⊥
   reason_refuses r a why is = passed_none worded (value p k limit) (sym (by_checks p k limit) ∙ is) r why
 
   -- 0 is no refusal's number.

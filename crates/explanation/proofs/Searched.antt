@@ -8,8 +8,9 @@ use mathlib.Core.List.{List}
 use lib.Dec.{ltb, leb}
 use borrow.Author.Tests.{ltb-true, ltb-false, le-leb, lt-leb, leb-true, leb-false}
 use Rattle.lines.proofs.Searches.{First, first_is_lem}
+use Rattle.std.specs.Prelude.{Option, None, Some}
 use Rattle.explanation.specs.declared.Stop.{Stop}
-use Rattle.explanation.specs.Report.{did, stop_tick, stop_at, still_running, has_stopped, outcome}
+use Rattle.explanation.specs.Report.{did, stop_tick, stop_at, outcome}
 
 module _ (p : List ℕ) (k o limit : ℕ) where
   abbrev has_ended : ℕ → Bool
@@ -67,16 +68,16 @@ module _ (p : List ℕ) (k o limit : ℕ) where
 
   -- ---- the outcome
 
-  pub outcome_stops : (n : ℕ) → stop_tick p k o limit ≡ n → n ≤ limit → outcome p k o limit ≡ has_stopped (stop_at p k o n)
+  pub outcome_stops : (n : ℕ) → stop_tick p k o limit ≡ n → n ≤ limit → outcome p k o limit ≡ Some (stop_at p k o n)
   unfolding outcome
   outcome_stops n is le = rw (is, le-leb n limit le)
 
-  pub outcome_runs : limit < stop_tick p k o limit → outcome p k o limit ≡ still_running
+  pub outcome_runs : limit < stop_tick p k o limit → outcome p k o limit ≡ None
   unfolding outcome
   outcome_runs lt = rw (lt-leb (stop_tick p k o limit) limit lt)
 
   -- the other way round
-  stops_not_runs : {s : Stop} {X : Type 0} → has_stopped s ≡ still_running → X
+  stops_not_runs : {s : Stop} {X : Type 0} → Some s ≡ None → X
   stops_not_runs q = let z : ◌≡◌ {A = ℕ} 0 1 = cc in absurd (omega arith)
 
   -- how it stopped
@@ -84,10 +85,10 @@ module _ (p : List ℕ) (k o limit : ℕ) where
     pub within : stop_tick p k o limit ≤ limit
     pub is : s ≡ stop_at p k o (stop_tick p k o limit)
 
-  pub stopped_found : (s : Stop) → outcome p k o limit ≡ has_stopped s → Found s
+  pub stopped_found : (s : Stop) → outcome p k o limit ≡ Some s → Found s
   stopped_found s is = go (leb (stop_tick p k o limit) limit) refl
     where
-      same : {s t : Stop} → has_stopped s ≡ has_stopped t → t ≡ s
+      same : {s t : Stop} → Some s ≡ Some t → t ≡ s
       same q = cc
 
       go : (a : Bool) → leb (stop_tick p k o limit) limit ≡ a → Found s
@@ -95,7 +96,7 @@ module _ (p : List ℕ) (k o limit : ℕ) where
           let le = leb-true (stop_tick p k o limit) limit a in record { within = le; is = same (sym (outcome_stops _ refl le) ∙ is) }
       go false a = stops_not_runs (sym is ∙ outcome_runs (leb-false (stop_tick p k o limit) limit a))
 
-  pub running_found : outcome p k o limit ≡ still_running → (m : ℕ) → m ≤ limit → (did p k o m).run.on ≡ true
+  pub running_found : outcome p k o limit ≡ None → (m : ℕ) → m ≤ limit → (did p k o m).run.on ≡ true
   running_found is m le = go (leb (stop_tick p k o limit) limit) refl
     where
       go : (a : Bool) → leb (stop_tick p k o limit) limit ≡ a → (did p k o m).run.on ≡ true

@@ -24,6 +24,7 @@ use Rattle.running.proofs.Gone.{busy_held, GoneOn, gone_within}
 use Rattle.running.proofs.LastDue.{stops_last}
 use Rattle.running.proofs.OneStop.{holding_line}
 use Rattle.running.proofs.Coming.{stops_at_once, stops_later}
+use Rattle.std.specs.Prelude.{Some}
 use Rattle.explanation.specs.declared.Cause.TheVariants.{ForLine, ForAbove}
 use Rattle.explanation.specs.declared.Stop.{Stop}
 use Rattle.explanation.specs.Report.{did, held_at, first_due, stop_of, stop_at}
@@ -70,7 +71,7 @@ module _ (p : List ℕ) (k o : ℕ) (lt : k < 200) where
     by_line_lem (busy {c = c} {x = x} is line above same) how =
         let here = at_line_lem same line in
         let held = busy_held p k o (on.since ++ gone) last on.way c (counter_ranged p last.line c x line) above in
-        in_use (event ∙ is) (ByEvent.cause_006 p _ n _ _ (event ∙ is) here ∙ ap (λ (v : Run). ForLine (counter v c).line) last_is)
+        in_use (event ∙ is) (ByEvent.cause_006 p _ n _ _ (event ∙ is) here ∙ ap (λ (v : Run). Some (ForLine (counter v c).line)) last_is)
         here on.way (line_is (ap (λ (v : Run). v.line) same)) (how ∙ ap Ends is) held
     by_line_lem (alone {c = c} is line idle none same) how =
         let here = at_line_lem same line in
@@ -84,10 +85,10 @@ module _ (p : List ℕ) (k o : ℕ) (lt : k < 200) where
         go le here told (some_before (is_for_of p c) (did p k o n).run.line) refl
       where
         go : (le : 1 ≤ c) → line_at p (did p k o n).run.line ≡ Next c
-            → s.cause ≡ ForAbove (some_before (is_for_of p c) (did p k o n).run.line)
+            → s.cause ≡ Some (ForAbove (some_before (is_for_of p c) (did p k o n).run.line))
             → (t : Bool) → some_before (is_for_of p c) (did p k o n).run.line ≡ t → Fact p k o s
-        go le here told true so = some_above p c _ le so λ j x up line. for_above (event ∙ is) (told ∙ ap ForAbove so) here up line
-        go le here told false so = no_for (event ∙ is) (told ∙ ap ForAbove so) here (none_above p c _ so)
+        go le here told true so = some_above p c _ le so λ j x up line. for_above (event ∙ is) (told ∙ ap (λ t. Some (ForAbove t)) so) here up line
+        go le here told false so = no_for (event ∙ is) (told ∙ ap (λ t. Some (ForAbove t)) so) here (none_above p c _ so)
     by_line_lem (past is loop le) how = other (inl (event ∙ is)) (ByEvent.cause_other p _ n _ _ (inl (event ∙ is)))
     by_line_lem (done is line same) how = other (inr (inl (event ∙ is))) (ByEvent.cause_other p _ n _ _ (inr (inl (event ∙ is))))
     by_line_lem (bad is line same) how = other (inr (inr (event ∙ is))) (ByEvent.cause_other p _ n _ _ (inr (inr (event ∙ is))))

@@ -1,3 +1,4 @@
+pub mod Refusals
 pub mod Report
 pub mod NextDue
 pub mod Reasons

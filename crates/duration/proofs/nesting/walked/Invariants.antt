@@ -1,11 +1,7 @@
 -- `duration::nesting::walked` meets its contract: up to line i every For is met, and no tangle (`Walking`).
 -- Assumes nothing.
 use Rattle.duration.proofs.Walking.{Walking}
-use Prim.Native.Nat.{◌-◌}
 use Rattle.duration.proofs.nesting.walked.Given as goal
 
 abbrev pub invariant-loop-i : goal.invariant-loop-i
-invariant-loop-i l = Walking l.p l.e l.i l.w
-
-abbrev pub decreases-loop-i : goal.decreases-loop-i
-decreases-loop-i l = l.e - l.i
+invariant-loop-i l = Walking l.p l.i l.nexts

@@ -1,0 +1,2 @@
+-- `lines::for_counter` meets its contract: a line that is no For has none.
+-- Assumes nothing.

@@ -1,0 +1,2 @@
+-- `lines::for_line` meets its contract: each way out by its test.
+-- Assumes nothing.

@@ -1,0 +1,2 @@
+-- `lines::is_bad` meets its contract: by the kind of line.
+-- Assumes nothing.
