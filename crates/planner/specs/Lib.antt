@@ -3,3 +3,4 @@ pub mod Lines
 pub mod Planned
 pub mod Reasons
 pub mod ByTheRule
+pub mod Refusals

@@ -3,8 +3,6 @@
 use Rattle.std.specs.Prelude.{ℕ, ◌*◌, ◌/◌, Bool, ◌&&◌, List, length, leb, eqb}
 use Rattle.formats.specs.Checks.{Res, refused, passed, all, ◌>>◌, ◌or_else◌}
 use Rattle.lines.specs.Program.{is_program}
-use Rattle.planner.specs.declared.Answer.{Answer}
-use Rattle.planner.specs.declared.Answer.TheVariants.{Written, Refused}
 use Rattle.planner.specs.Plan.{moves_of, most_moves, is_timed}
 use Rattle.planner.specs.Lines.{program_of}
 
@@ -24,10 +22,10 @@ planned ns area = do
   all is_timed (moves_of ns) or_else 71
   passed (program_of (moves_of ns))
 
--- what the code answers
-abbrev pub answer_of : Res (List ℕ) → Answer
-answer_of (refused e) = Refused e
-answer_of (passed program) = Written
+-- what is answered: nothing beside the area, or the refusal
+abbrev pub answered : Res (List ℕ) → Res (Unit {0})
+answered (refused e) = refused e
+answered (passed program) = passed tt
 
 -- the area then, and where nothing is written
 abbrev pub area_of : Res (List ℕ) → List ℕ → List ℕ

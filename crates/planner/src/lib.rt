@@ -4,13 +4,16 @@
 
 ghost use Rattle.std.specs.Prelude.{◌≡◌, true, [], ◌∷◌, ◌+◌, ◌*◌, ◌-◌, ◌≤◌, ◌<◌, length, replicate};
 ghost use Rattle.formats.specs.Checks.{all};
+ghost use Rattle.formats.specs.Numbers.{res_of};
 ghost use Rattle.lines.specs.declared.Line.TheVariants.{State};
 ghost use Rattle.lines.specs.Line.{end_mark};
 ghost use Rattle.lines.specs.Program.{IsProgram};
 ghost use Rattle.planner.specs.Plan.{move_at, moves_of, is_time, is_timed, InRange, Timed};
 ghost use Rattle.planner.specs.Lines.{loop_lines, lines_for, move_lines, plan_lines, Lays};
-ghost use Rattle.planner.specs.Planned.{is_counted, planned, answer_of, area_of};
+ghost use Rattle.planner.specs.Planned.{is_counted, planned, answered, area_of};
+ghost use Rattle.planner.specs.Refusals.{number_of as number_of_refusal, distinct as distinct_refusals};
 
+use formats::Numbered;
 use lines::Line;
 
 // A weight move: the word of the outputs while the ship settles, for how many ticks, the word for the reading, for how many ticks.
@@ -22,11 +25,25 @@ pub struct Move {
     pub reading: u32,
 }
 
-// The program is written, or why not.
-#[derive(Clone, Copy)]
-pub enum Answer {
-    Written,
-    Refused(u8),
+// Why the program of a plan is not written.
+#[derive(Clone, Copy, Debug, PartialEq, Eq)]
+pub enum Refusal {
+    // an area not of 1,600 bytes
+    NotProgram = 30,
+    // no moves or too many, or a part of one
+    NotMoves = 70,
+    // a time outside its range
+    NotTime = 71,
+}
+
+impl Numbered for Refusal {
+    ghost number_of = { number_of_refusal };
+
+    fn number(self) -> u8 {
+        self as u8
+    }
+
+    ghost distinct = { distinct_refusals };
 }
 
 // The most moves of a plan.
@@ -45,13 +62,7 @@ fn is_counted(plan: &[u32]) -> bool
     ensures test { result ≡ is_counted plan.now }
 {
     let moves = plan.len() / 4;
-    if 4 * moves != plan.len() {
-        return false;
-    }
-    if moves < 1 {
-        return false;
-    }
-    moves <= MOST_MOVES
+    4 * moves == plan.len() && 1 <= moves && moves <= MOST_MOVES
 }
 
 // Move k of the plan.
@@ -71,20 +82,14 @@ pub fn move_at(plan: &[u32], k: usize) -> Move
 fn is_time(t: u32) -> bool
     ensures test { result ≡ is_time t }
 {
-    if t < 1 {
-        return false;
-    }
-    t <= MOST_TIME
+    1 <= t && t <= MOST_TIME
 }
 
 // Whether both times of a move are in their range.
 fn is_timed(m: Move) -> bool
     ensures test { result ≡ is_timed m }
 {
-    if !is_time(m.settling) {
-        return false;
-    }
-    is_time(m.reading)
+    is_time(m.settling) && is_time(m.reading)
 }
 
 // Whether all times are in their range.
@@ -92,13 +97,10 @@ fn are_timed(plan: &[u32]) -> bool
     requires { is_counted plan.now ≡ true }
     ensures test { result ≡ all is_timed (moves_of plan.now) }
 {
-    let moves = plan.len() / 4;
-    let mut k: usize = 0;
-    while k < moves {
+    for k in 0..plan.len() / 4 {
         if !is_timed(move_at(plan, k)) {
             return false;
         }
-        k += 1;
     }
     true
 }
@@ -169,12 +171,9 @@ fn put_moves(program: &mut [u8], plan: &[u32]) -> usize
     ensures lays { Lays 0 (plan_lines (moves_of plan.now)) program.old result program.new }
     ensures near { result ≤ 128 }
 {
-    let moves = plan.len() / 4;
-    let mut at: usize = 0;
-    let mut k: usize = 0;
-    while k < moves {
+    let mut at = 0;
+    for k in 0..plan.len() / 4 {
         at = put_move(program, at, move_at(plan, k));
-        k += 1;
     }
     at
 }
@@ -184,29 +183,28 @@ fn put_ends(program: &mut [u8], at: usize)
     requires { IsProgram program.old × (at ≤ 200) }
     ensures lays { Lays at (replicate (200 - at) end_mark) program.old 200 program.new }
 {
-    let mut i = at;
-    while i < 200 {
-        i = put_state(program, i, 0, 0);
+    for i in at..200 {
+        put_state(program, i, 0, 0);
     }
 }
 
 // ---- the plan
 
 // The program of a plan is written, or nothing and the plan is refused, whatever the numbers and the area are, and however many.
-pub fn write(plan: &[u32], program: &mut [u8]) -> Answer
-    ensures answer { result ≡ answer_of (planned plan.now program.old) }
+pub fn write(plan: &[u32], program: &mut [u8]) -> Result<(), Refusal>
+    ensures answer { res_of number_of_refusal result ≡ answered (planned plan.now program.old) }
     ensures area { program.new ≡ area_of (planned plan.now program.old) program.old }
 {
     if program.len() != lines::PROGRAM {
-        return Answer::Refused(30);
+        return Err(Refusal::NotProgram);
     }
     if !is_counted(plan) {
-        return Answer::Refused(70);
+        return Err(Refusal::NotMoves);
     }
     if !are_timed(plan) {
-        return Answer::Refused(71);
+        return Err(Refusal::NotTime);
     }
     let at = put_moves(program, plan);
     put_ends(program, at);
-    Answer::Written
+    Ok(())
 }

@@ -8,7 +8,4 @@ use Rattle.planner.specs.Lines.{Lays}
 use Rattle.planner.proofs.put_ends.Given as goal
 
 abbrev pub invariant-loop-i : goal.invariant-loop-i
-invariant-loop-i l = (Lays l.at (replicate (l.i - l.at) end_mark) l.initial.program l.i l.program) × (l.at ≤ l.i) × (l.i ≤ 200) × (length l.program ≡ length l.initial.program)
-
-abbrev pub decreases-loop-i : goal.decreases-loop-i
-decreases-loop-i l = 200 - l.i
+invariant-loop-i l = (Lays l.at (replicate (l.i - l.at) end_mark) l.initial.program l.i l.program) × (length l.program ≡ length l.initial.program)

@@ -8,41 +8,28 @@ use Rattle.planner.proofs.Moves.{counted_is, plan_begins, move_timed, plan_on, p
 use Rattle.planner.proofs.put_moves.Goals as goal
 
 pub loop-k-init : goal.loop-k-init
-loop-k-init c = (plan_begins _ _ c.requires.2, search rules, search rules, refl)
-
-pub move_at-requires : goal.move_at-requires
-move_at-requires c =
-    let so = counted_is c.args.plan.now c.requires.1 in
-    (omega (arith, so.2, c.loop-k-test.true), omega (arith, so.0, c.loop-k-test.true))
+loop-k-init c = (plan_begins _ _ c.requires.2, search rules, refl)
 
 pub put_move-at-requires : goal.put_move-at-requires
 put_move-at-requires c =
     let so = counted_is c.args.plan.now c.requires.1 in (
-      c.loop-k.invariant.3 ∙ c.requires.0,
-      omega (arith, c.loop-k.invariant.2, so.2, c.loop-k-test.true),
+      c.loop-k.invariant.2 ∙ c.requires.0,
+      omega (arith, c.loop-k.invariant.1, so.2, c.loop-k-test.true),
       subst Timed (sym c.move_at.ensures.numbers) (move_timed c.loop-k.invariant.0 (omega (arith, so.0, c.loop-k-test.true))),
     )
-
-pub overflow_add-k : goal.overflow_add-k
-overflow_add-k c =
-    omega (arith, c.loop-k.invariant.1, (counted_is c.args.plan.now c.requires.1).2)
 
 pub loop-k-preserved : goal.loop-k-preserved
 loop-k-preserved c =
     let so = counted_is c.args.plan.now c.requires.1 in (
-      plan_on c.loop-k.invariant.0 (omega (arith, so.0, c.loop-k-test.true)) (omega (arith, c.loop-k.invariant.2, so.2, c.loop-k-test.true, c.requires.0)) c.move_at.ensures.numbers c.put_move-at.ensures.lays,
-      omega (arith, c.loop-k-test.true),
-      omega (arith, c.put_move-at.ensures.near, c.loop-k.invariant.2),
+      plan_on c.loop-k.invariant.0 (omega (arith, so.0, c.loop-k-test.true)) (omega (arith, c.loop-k.invariant.1, so.2, c.loop-k-test.true, c.requires.0)) c.move_at.ensures.numbers c.put_move-at.ensures.lays,
+      omega (arith, c.put_move-at.ensures.near, c.loop-k.invariant.1),
       search rules,
     )
-
-pub shape_of-program : goal.shape_of-program
-shape_of-program c = c.loop-k.invariant.3
 
 pub returns : goal.returns
 returns c =
     let so = counted_is c.args.plan.now c.requires.1 in
     record {
       lays = plan_over c.loop-k.invariant.0 (omega (arith, so.0, c.loop-k-test.false));
-      near = omega (arith, so.2, c.loop-k.invariant.1, c.loop-k.invariant.2);
+      near = omega (arith, so.2, c.loop-k.invariant.1, c.loop-k.invariant.1);
     }

@@ -7,7 +7,4 @@ use Rattle.planner.proofs.Moves.{Planned}
 use Rattle.planner.proofs.put_moves.Given as goal
 
 abbrev pub invariant-loop-k : goal.invariant-loop-k
-invariant-loop-k l = (Planned l.plan l.k l.initial.program l.at l.program) × (l.k ≤ l.moves) × (l.at ≤ 8 * l.k) × (length l.program ≡ length l.initial.program)
-
-abbrev pub decreases-loop-k : goal.decreases-loop-k
-decreases-loop-k l = l.moves - l.k
+invariant-loop-k l = (Planned l.plan l.k l.initial.program l.at l.program) × (l.at ≤ 8 * l.k) × (length l.program ≡ length l.initial.program)
