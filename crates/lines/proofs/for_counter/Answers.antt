@@ -1,2 +1,0 @@
--- `lines::for_counter` meets its contract: a line that is no For has none.
--- Assumes nothing.

@@ -1,2 +1,0 @@
--- `lines::for_line` meets its contract: each way out by its test.
--- Assumes nothing.

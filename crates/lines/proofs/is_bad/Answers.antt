@@ -1,2 +1,0 @@
--- `lines::is_bad` meets its contract: by the kind of line.
--- Assumes nothing.

@@ -1,2 +1,0 @@
--- `lines::next_line` meets its contract: each way out by its test; six bytes are 0 if their high and their low part are.
--- Assumes nothing.
