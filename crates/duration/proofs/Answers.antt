@@ -7,7 +7,8 @@ use mathlib.Core.Logic.{◌≢◌}
 use mathlib.Core.Bool.{Bool, true, false, not}
 use mathlib.Core.List.{List}
 use lib.ListN.{length}
-use Rattle.std.specs.Prelude.{Option, None, Some}
+use Rattle.std.specs.Prelude.{Option, None, Some, IfSome}
+use Rattle.std.specs.Option.{unwrap_or}
 use lib.Dec.{leb}
 use borrow.Author.Tests.{eq-eqb, ne_eqb, lt-ltb, le-ltb, le-leb, lt-leb, leb-true, leb-false}
 use Rattle.formats.specs.Checks.{refused, passed, ◌>>◌, ◌or_else◌}
@@ -25,7 +26,7 @@ use Rattle.formats.proofs.Refusals.{Before, none_before_lem, one_more}
 use Rattle.duration.proofs.Order.{checks, told_at, told_well}
 use Rattle.duration.proofs.Faults.{inside_is}
 use Rattle.duration.proofs.Walking.{walk_tangled, walk_plain}
-use Rattle.lines.proofs.FirstEnd.{end_within, end_is}
+use Rattle.lines.proofs.FirstEnd.{end_is}
 use Rattle.duration.proofs.Judging.{nests}
 use Rattle.duration.proofs.Capping.{capped_small, capped_large}
 use Rattle.duration.proofs.Summing.{in_all}
@@ -53,6 +54,13 @@ module _ (s : Sum) where
 pub no_program : (p : List ℕ) → length p ≢ 1600 → report p ≡ refused 30
 no_program p ne = told_at p (end_line p) refl 0 30 (none_before_lem (checks p (end_line p))) (rule_refuses 30 (ne_eqb (length p) 1600 ne))
 
+-- the end that was found, if one was
+pub end_found : (p : List ℕ) (o : Option ℕ) {e : ℕ} → unwrap_or o 200 ≡ end_line p → IfSome o (λ n. n < 200) → o ≡ Some e → (e ≡ end_line p) × (e < 200)
+end_found p o is within some = (sym (ap (λ x. unwrap_or x 200) some) ∙ is, rw some at within)
+
+pub no_end_found : (p : List ℕ) (o : Option ℕ) → unwrap_or o 200 ≡ end_line p → o ≡ None → 200 ≡ end_line p
+no_end_found p o is none = sym (ap (λ x. unwrap_or x 200) none) ∙ is
+
 module _ (p : List ℕ) (size : length p ≡ 1600) (e : ℕ) (is : e ≡ end_line p) where
   before_042 : Before (checks p e) 1
   before_042 = one_more (checks p e) 0 (rule_passes 30 (eq-eqb (length p) 1600 size)) (none_before_lem (checks p e))
@@ -60,12 +68,9 @@ module _ (p : List ℕ) (size : length p ≡ 1600) (e : ℕ) (is : e ≡ end_lin
   pub no_end : e ≡ 200 → report p ≡ refused 42
   no_end none = told_at p e is 1 42 before_042 (rule_refuses 42 (le-ltb e 200 (omega arith)))
 
-  module _ (ends : e ≢ 200) where
-    pub in_program_lem : e < 200
-    in_program_lem = let le = end_within p in omega arith
-
+  module _ (ends : e < 200) where
     before_040 : Before (checks p e) 2
-    before_040 = one_more (checks p e) 1 (rule_passes 42 (lt-ltb e 200 in_program_lem)) before_042
+    before_040 = one_more (checks p e) 1 (rule_passes 42 (lt-ltb e 200 ends)) before_042
 
     module _ (w : Option (List (Option ℕ))) (q : w ≡ walked p e) where
       pub tangled : w ≡ None → report p ≡ refused 40
@@ -80,14 +85,14 @@ module _ (p : List ℕ) (size : length p ≡ 1600) (e : ℕ) (is : e ≡ end_lin
 
         module _ (b : Bool) (across : b ≡ is_across_one e 200 os) where
           inside_by : ends_inside p e ≡ b
-          inside_by = inside_is p e (omega (arith, in_program_lem)) ∙ ap (is_across_one e 200) (sym (walk_plain p e os (sym q ∙ some)).1) ∙ sym across
+          inside_by = inside_is p e (omega arith) ∙ ap (is_across_one e 200) (sym (walk_plain p e os (sym q ∙ some)).1) ∙ sym across
 
           pub ends_inside_lem : b ≡ true → report p ≡ refused 41
           ends_inside_lem found = told_at p e is 3 41 before_041 (rule_refuses 41 (ap not (inside_by ∙ found)))
 
           module _ (outside : b ≡ false) where
             pub nests_so : Nests p 0 e
-            nests_so = rw is (nests p (end_line p) (end_is p (rw is at in_program_lem)) (rw is at not_tangled) (rw is at (inside_by ∙ outside)))
+            nests_so = rw is (nests p (end_line p) (end_is p (rw is at ends)) (rw is at not_tangled) (rw is at (inside_by ∙ outside)))
 
             before_044 : Before (checks p e) 4
             before_044 = one_more (checks p e) 3 (rule_passes 41 (ap not (inside_by ∙ outside))) before_041

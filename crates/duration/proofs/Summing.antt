@@ -9,6 +9,8 @@ use mathlib.Core.Bool.{Bool, true, false, ◌&&◌, ◌||◌}
 use mathlib.Core.List.{List}
 use lib.Dec.{leb, ltb, eqb}
 use borrow.Author.Tests.{leb-true, leb-false, le-leb, eqb-true, eqb-false}
+use Rattle.std.specs.Prelude.{Option, None, Some, is_some}
+use Rattle.std.specs.Option.{unwrap_or}
 use Rattle.formats.proofs.Checks.{both_true, either_true, or_true, or_false, by_both, not_so}
 use Rattle.lines.specs.declared.Line.{Line}
 use Rattle.lines.specs.declared.Line.TheVariants.{State, For, Next, Bad}
@@ -188,6 +190,10 @@ module _ (p : List ℕ) where
 
 -- ---- the loop that sums
 
+-- the line that a search found, which tells 200 where it found none
+pub named : (o : Option ℕ) (m : ℕ) {n : ℕ} → unwrap_or o 200 ≡ m → o ≡ Some n → n ≡ m
+named o m is some = sym (ap (λ x. unwrap_or x 200) some) ∙ is
+
 -- Up to line i this is summed.
 pub record Summed (p : List ℕ) (at end i : ℕ) (s : Sum) : Type 0 where
   pub from : at ≤ i
@@ -224,6 +230,14 @@ module _ (p : List ℕ) (at end i : ℕ) (s : Sum) (q : Summed p at end i s) (le
           is = q.is ∙ ap (joined s) (sum_plain p i end lt le l (sym due) not-for) ∙ sym (joined_assoc s (plain_sum l) (sum_of p (i + 1) end))
               ∙ ap (λ a. joined a (sum_of p (i + 1) end)) (sym is);
         }
+
+    -- its For has a Next
+    pub has_next : (c x : ℕ) → l ≡ For c x → (o : Option ℕ) → unwrap_or o 200 ≡ next_after p c i → is_some o ≡ true
+    has_next c x is-for None next =
+        let z = q.nests.closed i (omega arith) lt in
+        let here = next_of_lem p i (sym due ∙ is-for) ∙ sym next in
+        absurd (omega arith)
+    has_next c x is-for (Some n) next = refl
 
     module _ (c x n : ℕ) (is-for : l ≡ For c x) (next : n ≡ next_after p c i) where
       here : next_of p i ≡ n

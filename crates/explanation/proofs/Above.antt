@@ -7,10 +7,12 @@ use mathlib.Core.Logic.{◌≢◌}
 use mathlib.Core.Bool.{Bool, true, false, true≢false}
 use mathlib.Core.List.{List}
 use lib.Dec.{eqb}
+use Rattle.std.specs.Prelude.{Option, Some}
+use Rattle.std.proofs.lemmas.Option.{none-some, same_Some}
 use borrow.Author.Tests.{eqb-true, eq-eqb, ne_eqb}
 use Rattle.lines.specs.declared.Line.{Line}
 use Rattle.lines.specs.declared.Line.TheVariants.{State, For, Next, Bad}
-use Rattle.lines.specs.Line.{for_counter}
+use Rattle.lines.specs.Line.{for_counter, for_counter_in}
 use Rattle.lines.specs.Program.{line_at}
 use Rattle.lines.specs.Loops.{counter_at}
 use Rattle.lines.specs.Searches.{some_before}
@@ -20,16 +22,29 @@ use Rattle.lines.proofs.Searches.{some_line, line_some}
 abbrev pub is_for_of : List ℕ → ℕ → ℕ → Bool
 is_for_of p c j = eqb (counter_at p j) c
 
-module _ (p : List ℕ) (c j : ℕ) {l : Line} {n : ℕ} (line : l ≡ line_at p j) (of : n ≡ for_counter l) where
-  counter_is : n ≡ counter_at p j
+module _ (p : List ℕ) (c j : ℕ) {l : Line} {n : Option ℕ} (line : l ≡ line_at p j) (of : n ≡ for_counter_in l) where
+  counter_is : n ≡ for_counter_in (line_at p j)
+  counter_is = of ∙ ap for_counter_in line
+
+  pub is_one : n ≡ Some c → is_for_of p c j ≡ true
   unfolding counter_at
-  counter_is = of ∙ ap for_counter line
+  is_one e = go (line_at p j) refl (sym counter_is ∙ e)
+    where
+      go : (x : Line) → line_at p j ≡ x → for_counter_in x ≡ Some c → is_for_of p c j ≡ true
+      go (State o t) is e = absurd (none-some c e)
+      go (For d x) is e = rw is (eq-eqb d c (same_Some d c e))
+      go (Next d) is e = absurd (none-some c e)
+      go Bad is e = absurd (none-some c e)
 
-  pub is_one : n ≡ c → is_for_of p c j ≡ true
-  is_one e = eq-eqb (counter_at p j) c (sym counter_is ∙ e)
-
-  pub is_none : n ≢ c → is_for_of p c j ≡ false
-  is_none ne = ne_eqb (counter_at p j) c (λ e. ne (counter_is ∙ e))
+  pub is_none : 1 ≤ c → n ≢ Some c → is_for_of p c j ≡ false
+  unfolding counter_at
+  is_none le ne = go (line_at p j) refl (λ e. ne (counter_is ∙ e))
+    where
+      go : (x : Line) → line_at p j ≡ x → for_counter_in x ≢ Some c → is_for_of p c j ≡ false
+      go (State o t) is ne = rw is (ne_eqb 0 c (λ z. omega arith))
+      go (For d x) is ne = rw is (ne_eqb d c (λ z. ne (ap Some z)))
+      go (Next d) is ne = rw is (ne_eqb 0 c (λ z. omega arith))
+      go Bad is ne = rw is (ne_eqb 0 c (λ z. omega arith))
 
 -- none before line j, nor on it
 pub none_yet : (f : ℕ → Bool) → some_before f 0 ≡ false
@@ -39,10 +54,6 @@ none_yet f = refl
 pub none_more : (f : ℕ → Bool) (j : ℕ) → some_before f j ≡ false → f j ≡ false → some_before f (j + 1) ≡ false
 unfolding some_before
 none_more f j none here = let e : j + 1 ≡ suc j = omega arith in rw (e, none, here)
-
--- where all lines were looked at
-pub none_all : (f : ℕ → Bool) (j k : ℕ) → j ≤ k → k ≤ j → some_before f j ≡ false → false ≡ some_before f k
-none_all f j k up down none = let e : j ≡ k = omega arith in sym (ap (some_before f) (sym e) ∙ none)
 
 -- ---- "whether some For of that counter stands above"
 

@@ -8,7 +8,8 @@ use mathlib.Core.List.{List}
 use lib.Dec.{ltb, leb}
 use borrow.Author.Tests.{ltb-true, ltb-false, le-leb, lt-leb, leb-true, leb-false}
 use Rattle.lines.proofs.Searches.{First, first_is_lem}
-use Rattle.std.specs.Prelude.{Option, None, Some}
+use Rattle.std.specs.Prelude.{None, Some}
+use Rattle.std.proofs.lemmas.Option.{none-some, same_Some}
 use Rattle.explanation.specs.declared.Stop.{Stop}
 use Rattle.explanation.specs.Report.{did, stop_tick, stop_at, outcome}
 
@@ -76,11 +77,7 @@ module _ (p : List ℕ) (k o limit : ℕ) where
   unfolding outcome
   outcome_runs lt = rw (lt-leb (stop_tick p k o limit) limit lt)
 
-  -- the other way round
-  stops_not_runs : {s : Stop} {X : Type 0} → Some s ≡ None → X
-  stops_not_runs q = let z : ◌≡◌ {A = ℕ} 0 1 = cc in absurd (omega arith)
-
-  -- how it stopped
+  -- the other way round: how it stopped
   pub record Found (s : Stop) : Type 0 where
     pub within : stop_tick p k o limit ≤ limit
     pub is : s ≡ stop_at p k o (stop_tick p k o limit)
@@ -88,17 +85,14 @@ module _ (p : List ℕ) (k o limit : ℕ) where
   pub stopped_found : (s : Stop) → outcome p k o limit ≡ Some s → Found s
   stopped_found s is = go (leb (stop_tick p k o limit) limit) refl
     where
-      same : {s t : Stop} → Some s ≡ Some t → t ≡ s
-      same q = cc
-
       go : (a : Bool) → leb (stop_tick p k o limit) limit ≡ a → Found s
       go true a =
-          let le = leb-true (stop_tick p k o limit) limit a in record { within = le; is = same (sym (outcome_stops _ refl le) ∙ is) }
-      go false a = stops_not_runs (sym is ∙ outcome_runs (leb-false (stop_tick p k o limit) limit a))
+          let le = leb-true (stop_tick p k o limit) limit a in record { within = le; is = same_Some _ _ (sym is ∙ outcome_stops _ refl le) }
+      go false a = absurd (none-some s (sym (outcome_runs (leb-false (stop_tick p k o limit) limit a)) ∙ is))
 
   pub running_found : outcome p k o limit ≡ None → (m : ℕ) → m ≤ limit → (did p k o m).run.on ≡ true
   running_found is m le = go (leb (stop_tick p k o limit) limit) refl
     where
       go : (a : Bool) → leb (stop_tick p k o limit) limit ≡ a → (did p k o m).run.on ≡ true
-      go true a = stops_not_runs (sym (outcome_stops _ refl (leb-true (stop_tick p k o limit) limit a)) ∙ is)
+      go true a = absurd (none-some _ (sym is ∙ outcome_stops _ refl (leb-true (stop_tick p k o limit) limit a)))
       go false a = runs_before m (omega (arith, leb-false (stop_tick p k o limit) limit a))

@@ -18,7 +18,7 @@ fn is_for_above(p: &[u8], c: u8, k: u8) -> bool
     ensures test { result ≡ some_before (λ j. eqb (counter_at p.now j) c) k }
 {
     for j in 0..k {
-        if lines::for_counter(lines::line_at(p, j as usize)) == c {
+        if lines::for_counter(lines::line_at(p, j as usize)) == Some(c) {
             return true;
         }
     }

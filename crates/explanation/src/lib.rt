@@ -6,13 +6,13 @@ ghost use Rattle.std.specs.Prelude.{◌≡◌, true, Some, ◌≤◌, ◌<◌};
 ghost use Rattle.formats.specs.Numbers.{res_of};
 ghost use Rattle.lines.specs.Program.{IsProgram};
 ghost use Rattle.running.specs.Invariant.{RunInvariant};
-ghost use Rattle.running.specs.Known.{Known as IsTable};
+ghost use Rattle.running.specs.Known.{Tabled};
 ghost use Rattle.explanation.specs.Refusals.{number_of as number_of_refusal, distinct as distinct_refusals};
 ghost use Rattle.explanation.specs.Report.{outcome, report, cause_number};
 ghost use Rattle.explanation.specs.NextDue.{NextDue};
 
 use formats::Numbered;
-use running::known::Table;
+use running::known::Known;
 use running::{How, Ran, Run, known};
 
 mod causes;
@@ -65,8 +65,8 @@ impl Numbered for Refusal {
 pub const MOST_TICKS: u64 = 100000;
 
 // The tick on which the line behind a held State falls due. The loops are not freed yet, where it ends the program.
-fn next_due(held: Run, p: &[u8], table: &Table) -> Ran
-    requires { IsProgram p.now × (held.on ≡ true) × (held.wait ≤ 1) × (RunInvariant held) × (IsTable p.now table.now) }
+fn next_due(held: Run, p: &[u8], table: &[Known]) -> Ran
+    requires { IsProgram p.now × (held.on ≡ true) × (held.wait ≤ 1) × (RunInvariant held) × (Tabled p.now table.now) }
     ensures due { NextDue p.now held result }
 {
     let step = held.onward();
@@ -77,7 +77,7 @@ fn next_due(held: Run, p: &[u8], table: &Table) -> Ran
             event,
             lines: 0,
         },
-        _ => known::due(run, p, &table.counters, &table.nexts, &table.counts),
+        _ => known::due(run, p, table),
     }
 }
 
@@ -90,7 +90,7 @@ fn followed(p: &[u8], k: u8, limit: u32) -> Option<Stop>
     let table = known::known_of(p);
     // the run before the last call: that with which the start begins, or that which held a State line before the tick
     let mut held = Run::begun(k, 0);
-    let mut ran = known::due(held, p, &table.counters, &table.nexts, &table.counts);
+    let mut ran = known::due(held, p, &table);
     let mut tick: u32 = 0;
     while ran.event == 0 {
         let wait = ran.run.wait as u32;

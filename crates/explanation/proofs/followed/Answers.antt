@@ -1,8 +1,7 @@
 -- `explanation::followed` meets its contract: each turn follows the run to the next tick at which a line falls due.
 -- Assumes nothing.
-use mathlib.Core.Path.{refl, ap, ◌∙◌}
+use mathlib.Core.Path.{ap, ◌∙◌}
 use Rattle.std.specs.Prelude.{Some}
-use Rattle.running.proofs.Invariant.{begun_going, still}
 use Rattle.explanation.proofs.Following.{at_start, in_program_lem, runs, waits, one_good, at_next, still_running, has_stopped}
 use borrow.Author.Rules.{rules}
 use native.Mathlib.Omega.{arith}

@@ -7,7 +7,7 @@ use Rattle.running.specs.Moments.{last_due}
 use Rattle.running.proofs.Freeing.{freed_ends}
 use Rattle.running.proofs.Turns.{tick_ends, tick_runs, tick_going}
 use Rattle.running.proofs.Invariant.{goes_on, still}
-use Rattle.explanation.proofs.Onward.{onward_goes, onward_nine}
+use Rattle.explanation.proofs.Onward.{onward_nine}
 use native.Mathlib.Omega.{arith}
 use Rattle.explanation.proofs.next_due.Goals as goal
 
@@ -21,7 +21,7 @@ returns-in_default c =
     record {
       due =
           record {
-            ran = c.due.ensures.due.ran ∙ tick_runs _ _ _ c.requires.1 c.requires.2 c.onward-step.ensures.step (onward_goes _ c.onward-step.ensures.step c.in_default.not-Ends);
+            ran = c.due.ensures.due.ran ∙ tick_runs _ _ _ c.requires.1 c.requires.2 c.onward-step.ensures.step c.in_default.not-Ends;
             last = λ six. c.due.ensures.due.last six ∙ ap (λ (s : Step). last_due c.args.p.now most s.run) c.onward-step.ensures.step;
           };
     }
