@@ -1,9 +1,7 @@
 -- `planner::are_timed` meets its contract: the moves before number k are in their range, so that those from it on decide.
 -- Assumes nothing.
-use Prim.Native.Nat.{◌≤◌}
 use mathlib.Core.Path.{sym, ap, ◌∙◌}
 use native.Mathlib.Omega.{arith}
-use borrow.Author.Rules.{rules}
 use Rattle.planner.specs.Plan.{is_timed}
 use Rattle.planner.proofs.Moves.{counted_is, timed_not, timed_on, timed_over}
 use Rattle.planner.proofs.are_timed.Goals as goal

@@ -1,7 +1,7 @@
 -- `planner::put_ends` meets its contract: the end marks up to line i are laid.
 -- Assumes nothing.
 use native.Mathlib.Omega.{arith}
-use mathlib.Core.Path.{◌≡◌, refl, ◌∙◌}
+use mathlib.Core.Path.{refl}
 use borrow.Author.Rules.{rules}
 use Rattle.planner.proofs.Laying.{ends_begin, ends_more}
 use Prim.Native.Nat.{◌≤◌}

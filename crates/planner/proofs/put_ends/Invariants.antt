@@ -1,6 +1,6 @@
 -- `planner::put_ends` meets its contract: the end marks up to line i are laid.
 -- Assumes nothing.
-use Prim.Native.Nat.{◌-◌, ◌≤◌}
+use Prim.Native.Nat.{◌-◌}
 use mathlib.Core.Path.{◌≡◌}
 use lib.ListN.{length, replicate}
 use Rattle.lines.specs.Line.{end_mark}

@@ -1,6 +1,6 @@
 -- `planner::put_moves` meets its contract: the lines of the moves before number k are laid.
 -- Assumes nothing.
-use Prim.Native.Nat.{◌*◌, ◌-◌, ◌≤◌}
+use Prim.Native.Nat.{◌*◌, ◌≤◌}
 use mathlib.Core.Path.{◌≡◌}
 use lib.ListN.{length}
 use Rattle.planner.proofs.Moves.{Planned}

@@ -16,21 +16,11 @@ returns-then-not-is_counted c =
     no_count _ _ c.if-program-ne-PROGRAM.false (sym c.is_counted.ensures.test ∙ c.if-not-is_counted.true) in
     record { answer = r.0; area = r.1 }
 
-pub are_timed-requires : goal.are_timed-requires
-are_timed-requires c = sym c.is_counted.ensures.test ∙ c.if-not-is_counted.false
-
 pub returns-then-not-are_timed : goal.returns-then-not-are_timed
 returns-then-not-are_timed c =
     let r =
     no_time _ _ c.if-program-ne-PROGRAM.false (sym c.is_counted.ensures.test ∙ c.if-not-is_counted.false) (sym c.are_timed.ensures.test ∙ c.if-not-are_timed.true) in
     record { answer = r.0; area = r.1 }
-
-pub put_moves-at-requires : goal.put_moves-at-requires
-put_moves-at-requires c = (
-  c.if-program-ne-PROGRAM.false,
-  sym c.is_counted.ensures.test ∙ c.if-not-is_counted.false,
-  sym c.are_timed.ensures.test ∙ c.if-not-are_timed.false,
-)
 
 pub returns : goal.returns
 returns c =
