@@ -41,8 +41,8 @@ fn past(held: Counter, k: u8) -> Turn
 // A For line takes its counter and goes on; with a busy counter event 006, with no later Next of it event 007. With count 0000 it
 // takes none and goes on from that Next. `next` is the line of the first later Next.
 fn for_turn(next: Option<u8>, count: u16, k: u8, held: Counter) -> Turn
-    requires { IfSome next (λ n. n < 200) }
-    ensures turn { (p : List ℕ) (c : ℕ) → unwrap_or next 200 ≡ next_after p c k → Leads p (For c count) k held result }
+    ensures turn { (p : List ℕ) (c : ℕ) → unwrap_or next 200 ≡ next_after p c k → IfSome next (λ n. n < 200)
+        → Leads p (For c count) k held result }
 {
     if 0 < held.count {
         return ended(6, k, held);
@@ -103,8 +103,8 @@ pub fn turn_of(p: &[u8], line: Line, k: u8, held: Counter) -> Turn
 
 // The same, of which is known what a reader of the line and a search find.
 pub fn turn_known(known: Known, k: u8, held: Counter) -> Turn
-    requires { (held.line < 199) × (is_for_or_next known.line ≡ true) × (IfSome known.next (λ n. n < 200)) }
-    ensures turn { (p : List ℕ) → IsKnown p k known → Leads p known.line k held result }
+    requires { held.line < 199 }
+    ensures turn { (p : List ℕ) → IsKnown p k known → is_for_or_next known.line ≡ true → Leads p known.line k held result }
 {
     match known.line {
         Line::For { count, .. } => for_turn(known.next, count, k, held),

@@ -6,7 +6,7 @@ use Rattle.std.specs.Option.{is_some}
 use Rattle.lines.specs.Line.{OneToFour}
 use Rattle.running.specs.declared.Ran.{Ran}
 use Rattle.running.specs.Due.{freed}
-use Rattle.running.proofs.Turns.{named_few, due_left, due_goes_on, due_going, last_busy, last_further, none_left}
+use Rattle.running.proofs.Turns.{is_counted, named_few, due_left, due_goes_on, due_going, last_busy, last_further, none_left}
 use Rattle.running.proofs.Freeing.{due_freed, last_never}
 use Rattle.running.proofs.known.due.Goals as goal
 
@@ -43,7 +43,7 @@ pub returns-in-Ends : goal.returns-in-Ends
 returns-in-Ends c =
     let known = c.requires.3.below _ c.loop-n.invariant.0.in_program in
     let names = sym c.counter_of.ensures.counter ∙ c.in-Some.is in
-    let leads = c.turn_known-t.ensures.turn _ known in
+    let leads = c.turn_known-t.ensures.turn _ known (is_counted _ (ap is_some names)) in
     record {
       due =
           record {
@@ -56,7 +56,7 @@ pub loop-n-preserved : goal.loop-n-preserved
 loop-n-preserved c =
     let known = c.requires.3.below _ c.loop-n.invariant.0.in_program in
     let names = sym c.counter_of.ensures.counter ∙ c.in-Some.is in
-    let leads = c.turn_known-t.ensures.turn _ known in (
+    let leads = c.turn_known-t.ensures.turn _ known (is_counted _ (ap is_some names)) in (
       due_going _ _ _ _ _ _ c.loop-n-test.true known.line names leads c.loop-n.invariant.0,
       c.loop-n.invariant.1 ∙ due_goes_on _ _ _ _ _ _ c.loop-n-test.true known.line names leads c.in_default-how.not-Ends,
       c.loop-n.invariant.2 ∙ last_further _ _ _ _ _ _ c.loop-n-test.true known.line names leads c.in_default-how.not-Ends,
