@@ -19,7 +19,7 @@ use Rattle.channels.specs.declared.Beside.{Beside}
 use Rattle.channels.specs.Totals.{unused, is_or_more, lost_in, closes, opens, count_of, ticks_closed, beside_one, beside_after, map_from, all_from, forward_one}
 use Rattle.channels.specs.Bringing.{log_for, is_later, matches, is_total, are_totals, are_in_reach, brought_by, bringing, bring_all, answer_of, records_of}
 use Rattle.channels.specs.Adding.{plus, uncarried, Adds}
-use Rattle.channels.proofs.ByValue.{totals_are, all_at}
+use Rattle.channels.proofs.Elements.{totals_are, all_at}
 use Rattle.channels.proofs.Counting.{log_passes}
 
 -- ---- what is brought

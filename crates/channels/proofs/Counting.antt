@@ -2,30 +2,28 @@
 -- Assumes nothing.
 use mathlib.Core.Path.{◌≡◌, refl, sym, ap, subst, ◌∙◌}
 use mathlib.Core.Logic.{◌≢◌}
-use Prim.Native.Nat.{ℕ, zero, suc, ◌+◌, ◌-◌, ◌/◌, ◌%◌, ◌≤◌, ◌<◌}
+use Prim.Native.Nat.{ℕ, zero, suc, ◌/◌, ◌%◌, ◌≤◌, ◌<◌}
 use native.Mathlib.Omega.{arith}
 use mathlib.Core.Bool.{Bool, true, false, not, false≢true}
 use mathlib.Core.List.{List, [], ◌∷◌, ◌++◌}
 use lib.ListN.{length, drop}
-use lib.Dec.{eqb, leb, ltb}
-use borrow.Author.Tests.{eq-eqb, ne_eqb, eqb-true, le-leb, lt-leb, lt-ltb, le-ltb, leb-true, leb-false}
+use lib.Dec.{eqb, leb}
+use borrow.Author.Tests.{eq-eqb, ne_eqb, eqb-true, le-leb, lt-leb}
 use Rattle.formats.specs.Checks.{Res, refused, passed, ◌>>=◌, ◌>>◌, ◌or_else◌}
 use Rattle.formats.proofs.Checks.{not_passed, refused_same, passed_same}
 use Rattle.reader.specs.declared.Record.{Record}
 use Rattle.reader.specs.declared.Told.{Told}
-use Rattle.reader.specs.declared.Answer.{Answer}
-use Rattle.reader.specs.declared.Answer.TheVariants.{Log, Refused}
 use Rattle.reader.specs.declared.Layout.{Layout}
 use Rattle.reader.specs.declared.Layout.TheVariants.{Twelve, Sixteen}
 use Rattle.reader.specs.Possible.{last_of}
 use Rattle.reader.specs.Layout.{size_of, most_bytes, other_than, is_marked, layout_of, record_in, records_in}
-use Rattle.reader.specs.Reading.{record_at, is_possible, may_stand, no_record, read_after, reading_as, reading, told, answer_of}
-use Rattle.reader.proofs.Walking.{refused_answer, log_answer}
+use Rattle.reader.specs.Reading.{record_at, is_possible, may_stand, no_record, read_after, reading_as, reading, told, told_of}
+use Rattle.reader.proofs.Walking.{refused_answer, ToldOf, log_answer}
 use Rattle.reader.proofs.Exactly.{records_read}
 use Rattle.reader.proofs.Rows.{length_records_in}
 use Rattle.channels.specs.declared.Beside.{Beside}
-use Rattle.channels.specs.Bringing.{is_sixteen, log_for, is_later, matches, is_total}
-use Rattle.channels.specs.Walk.{first_of, Reads, join_refusal}
+use Rattle.channels.specs.Bringing.{is_sixteen, log_for, is_later, matches}
+use Rattle.channels.specs.Walk.{first_of, Reads, joining}
 
 -- ---- the numbers of the reader's refusals: none is 0, and none above 56
 
@@ -73,24 +71,11 @@ module _ (n : ℕ) (log : List ℕ) where
     y or_else 51
     passed rs
 
-  pub log_some : (e : ℕ) → log_for n log ≡ refused e → e ≢ 0
-  unfolding log_for ◌>>=◌ ◌>>◌ ◌or_else◌
-  log_some e is = go (eqb n 32) (reading log) (λ x. (reading_numbers (layout_of log) log e x).0) (is_sixteen (layout_of log)) is
-    where
-      some : (d : ℕ) → 0 < d → ◌≡◌ {A = Res (List Record)} (refused d) (refused e) → e ≢ 0
-      some d lt same z = let x = refused_same same in omega arith
-
-      go : (x : Bool) (r : Res (List Record)) → (r ≡ refused e → 0 < e) → (y : Bool) → checked x r y ≡ refused e → e ≢ 0
-      go false r above y is = some 75 (omega arith) is
-      go true (refused d) above y is = λ z. absurd (omega (arith, above is))
-      go true (passed rs) above false is = some 51 (omega arith) is
-      go true (passed rs) above true is = absurd (not_passed (sym is))
-
-  pub other_count : n ≢ 32 → Refused 75 ≡ answer_of Sixteen (log_for n log)
+  pub other_count : n ≢ 32 → refused 75 ≡ told_of Sixteen (log_for n log)
   unfolding log_for ◌>>=◌ ◌>>◌ ◌or_else◌
   other_count ne = rw (ne_eqb n 32 ne)
 
-  module _ (count : n ≡ 32) {x : Answer} (is : x ≡ answer_of (layout_of log) (reading log)) where
+  module _ (count : n ≡ 32) where
     -- the checks behind the first
     behind : (r : Res (List Record)) (m : Layout) → reading log ≡ r → layout_of log ≡ m → log_for n log ≡ checked true r (is_sixteen m)
     unfolding log_for
@@ -98,25 +83,26 @@ module _ (n : ℕ) (log : List ℕ) where
         ap (λ x. checked x (reading log) (is_sixteen (layout_of log))) (eq-eqb n 32 count) ∙ ap (λ y. checked true y (is_sixteen (layout_of log))) er
         ∙ ap (λ l. checked true r (is_sixteen l)) em
 
-    pub log_refused : {e : ℕ} → x ≡ Refused e → Refused e ≡ answer_of Sixteen (log_for n log)
+    pub log_refused : {e : ℕ} → refused e ≡ told_of (layout_of log) (reading log) → refused e ≡ told_of Sixteen (log_for n log)
     unfolding ◌>>=◌ ◌>>◌ ◌or_else◌
-    log_refused {e} r = ap (answer_of Sixteen) (sym (behind (refused e) (layout_of log) (refused_answer (layout_of log) (reading log) e (sym r ∙ is)) refl))
+    log_refused {e} is = ap (told_of Sixteen) (sym (behind (refused e) (layout_of log) (refused_answer (layout_of log) (reading log) e is) refl))
 
-    layout_is : {t : Told} → x ≡ Log t → layout_of log ≡ t.layout
-    layout_is {t} l = sym (ap (λ (y : Told). y.layout) (log_answer (layout_of log) (reading log) t (sym l ∙ is)).is)
+    module _ {t : Told} (is : passed t ≡ told_of (layout_of log) (reading log)) where
+      accepted : ToldOf (layout_of log) (reading log) t
+      accepted = log_answer (layout_of log) (reading log) t is
 
-    pub log_older : {t : Told} → x ≡ Log t → t.layout ≡ Twelve → Refused 51 ≡ answer_of Sixteen (log_for n log)
-    unfolding ◌>>=◌ ◌>>◌ ◌or_else◌
-    log_older {t} l twelve =
-        let a = log_answer (layout_of log) (reading log) t (sym l ∙ is) in
-        ap (answer_of Sixteen) (sym (behind (passed a.records) Twelve a.read (layout_is l ∙ twelve)))
+      layout_is : layout_of log ≡ t.layout
+      layout_is = sym (ap (λ (y : Told). y.layout) accepted.is)
 
-    pub log_new : {t : Told} → x ≡ Log t → t.layout ≡ Sixteen → Log t ≡ answer_of Sixteen (log_for n log)
-    unfolding ◌>>=◌ ◌>>◌ ◌or_else◌
-    log_new {t} l sixteen =
-        let a = log_answer (layout_of log) (reading log) t (sym l ∙ is) in
-        let m = layout_is l ∙ sixteen in
-        ap Log (a.is ∙ ap (λ k. told k a.records) m) ∙ ap (answer_of Sixteen) (sym (behind (passed a.records) Sixteen a.read m))
+      pub log_older : t.layout ≡ Twelve → refused 51 ≡ told_of Sixteen (log_for n log)
+      unfolding ◌>>=◌ ◌>>◌ ◌or_else◌
+      log_older twelve = ap (told_of Sixteen) (sym (behind (passed accepted.records) Twelve accepted.read (layout_is ∙ twelve)))
+
+      pub log_new : t.layout ≡ Sixteen → passed t ≡ told_of Sixteen (log_for n log)
+      unfolding ◌>>=◌ ◌>>◌ ◌or_else◌
+      log_new sixteen =
+          let m = layout_is ∙ sixteen in
+          ap passed (accepted.is ∙ ap (λ k. told k accepted.records) m) ∙ ap (told_of Sixteen) (sym (behind (passed accepted.records) Sixteen accepted.read m))
 
   -- a log that passes them
   pub record Passes (rs : List Record) : Type 0 where
@@ -140,7 +126,7 @@ module _ (n : ℕ) (log : List ℕ) where
       go true ex (passed ss) er true ey is =
           record { count = eqb-true n 32 ex; read = er ∙ ap passed (passed_same is); sixteen = is_sixteen_lem (layout_of log) ey }
 
-  pub reads_of : (t : Told) → Log t ≡ answer_of Sixteen (log_for n log) → Reads t log × (log_for n log ≡ passed (first_of t.records log))
+  pub reads_of : (t : Told) → passed t ≡ told_of Sixteen (log_for n log) → Reads t log × (log_for n log ≡ passed (first_of t.records log))
   reads_of t is =
       let a = log_answer Sixteen (log_for n log) t is in
       let p = log_passes a.records a.read in
@@ -154,42 +140,30 @@ module _ (n : ℕ) (log : List ℕ) where
 -- ---- 072 and 073
 
 module _ (b : Beside) (log : List ℕ) where
-  pub join_none : (n : ℕ) → n ≡ 0 → 0 ≡ join_refusal b (first_of n log)
-  unfolding join_refusal is_later matches ◌>>◌ ◌or_else◌
+  pub join_none : (n : ℕ) → n ≡ 0 → passed tt ≡ joining b (first_of n log)
+  unfolding joining is_later matches ◌>>◌ ◌or_else◌
   join_none n e = rw e
 
-  pub join_early : (n : ℕ) → n ≢ 0 → (record_at Sixteen 0 log).tick < b.tick → 72 ≡ join_refusal b (first_of n log)
-  unfolding join_refusal is_later matches ◌>>◌ ◌or_else◌
-  join_early zero ne lt = absurd (ne refl)
-  join_early (suc n) ne lt = rw (lt-leb b.tick (record_at Sixteen 0 log).tick lt)
+  module _ (n : ℕ) (some : n ≢ 0) {first : Record} (is : first ≡ record_at Sixteen 0 log) where
+    by_first : (r : Res (Unit {0})) → (is_later b (first ∷ []) or_else 72 >> matches b (first ∷ []) or_else 73) ≡ r → r ≡ joining b (first_of n log)
+    unfolding joining is_later matches
+    by_first r e = go n refl
+      where
+        go : (k : ℕ) → n ≡ k → r ≡ joining b (first_of n log)
+        go zero z = absurd (some z)
+        go (suc k) z =
+            sym e ∙ ap (λ (f : Record). leb b.tick f.tick or_else 72 >> eqb f.word b.word or_else 73) is
+            ∙ ap (λ m. joining b (first_of m log)) (sym z)
 
-  pub join_other : (n : ℕ) → n ≢ 0 → b.tick ≤ (record_at Sixteen 0 log).tick → (record_at Sixteen 0 log).word ≢ b.word → 73 ≡ join_refusal b (first_of n log)
-  unfolding join_refusal is_later matches ◌>>◌ ◌or_else◌
-  join_other zero ne le other = absurd (ne refl)
-  join_other (suc n) ne le other = rw (le-leb b.tick (record_at Sixteen 0 log).tick le, ne_eqb (record_at Sixteen 0 log).word b.word other)
+    pub join_early : first.tick < b.tick → refused 72 ≡ joining b (first_of n log)
+    unfolding is_later matches ◌>>◌ ◌or_else◌
+    join_early lt = by_first (refused 72) (rw (lt-leb b.tick first.tick lt))
 
-  pub join_well : (n : ℕ) → n ≢ 0 → b.tick ≤ (record_at Sixteen 0 log).tick → (record_at Sixteen 0 log).word ≡ b.word → 0 ≡ join_refusal b (first_of n log)
-  unfolding join_refusal is_later matches ◌>>◌ ◌or_else◌
-  join_well zero ne le same = absurd (ne refl)
-  join_well (suc n) ne le same = rw (le-leb b.tick (record_at Sixteen 0 log).tick le, eq-eqb (record_at Sixteen 0 log).word b.word same)
+    module _ (le : b.tick ≤ first.tick) where
+      pub join_other : first.word ≢ b.word → refused 73 ≡ joining b (first_of n log)
+      unfolding is_later matches ◌>>◌ ◌or_else◌
+      join_other other = by_first (refused 73) (rw (le-leb b.tick first.tick le, ne_eqb first.word b.word other))
 
--- ---- a total that would pass the end
-
-pub passes_so : (total more : ℕ) → total ≤ 18446744073709551615 → ltb (18446744073709551615 - total) more ≡ not (is_total (total + more))
-passes_so total more le = go (leb (total + more) 18446744073709551615) refl
-  where
-    go : (x : Bool) → leb (total + more) 18446744073709551615 ≡ x → ltb (18446744073709551615 - total) more ≡ not x
-    go true e = let l = leb-true (total + more) 18446744073709551615 e in le-ltb (18446744073709551615 - total) more (omega arith)
-    go false e = let l = leb-false (total + more) 18446744073709551615 e in lt-ltb (18446744073709551615 - total) more (omega arith)
-
-pub over_is : (x : Bool) {r : Bool} → r ≡ not x → r ≡ true → x ≡ false
-over_is true e f = absurd (false≢true (sym e ∙ f))
-over_is false e f = refl
-
-pub under_is : (x : Bool) {r : Bool} → r ≡ not x → r ≡ false → x ≡ true
-under_is true e f = refl
-under_is false e f = absurd (false≢true (sym f ∙ e))
-
-pub not_not : (x : Bool) → not (not x) ≡ x
-not_not true = refl
-not_not false = refl
+      pub join_well : first.word ≡ b.word → passed tt ≡ joining b (first_of n log)
+      unfolding is_later matches ◌>>◌ ◌or_else◌
+      join_well same = by_first (passed tt) (rw (le-leb b.tick first.tick le, eq-eqb first.word b.word same))

@@ -1,7 +1,6 @@
 -- What the reader told of a log, and what is kept beside the totals behind it.
 -- Assumes nothing.
 use mathlib.Core.Path.{◌≡◌, refl, sym, ap, subst, ◌∙◌}
-use mathlib.Core.Logic.{◌≢◌}
 use Prim.Native.Nat.{ℕ, zero, suc, ◌+◌, ◌*◌, ◌/◌, ◌≤◌, ◌<◌}
 use native.Mathlib.Nat.{add-zero}
 use native.Mathlib.Numerals.{add-one}
@@ -10,18 +9,19 @@ use mathlib.Core.Bool.{Bool, true, false, ◌&&◌, ◌||◌}
 use mathlib.Core.List.{List, [], ◌∷◌}
 use lib.ListN.{length, drop}
 use lib.Dec.{eqb, leb, ltb}
-use borrow.Author.Tests.{eqb-true, eq-eqb, leb-true}
-use Rattle.std.specs.Prelude.{if◌then◌else◌}
-use Rattle.formats.specs.Checks.{refusal_of, ◌>>◌, ◌or_else◌}
-use Rattle.formats.proofs.Checks.{both_true, either_true, or_false}
+use borrow.Author.Tests.{eqb-true, eq-eqb, leb-true, le-leb}
+use Rattle.std.specs.Prelude.{if◌then◌else◌, Option, Some, None}
+use Rattle.formats.specs.Checks.{passed, ◌>>◌, ◌or_else◌}
+use Rattle.formats.proofs.Checks.{both_true, either_true, or_false, not_passed}
 use Rattle.boxlog.specs.Record.{is_cause, is_kind_and_cause}
 use Rattle.reader.specs.declared.Record.{Record}
 use Rattle.reader.specs.declared.Told.{Told}
 use Rattle.reader.specs.declared.Layout.TheVariants.{Sixteen}
 use Rattle.reader.specs.Possible.{last_of}
 use Rattle.reader.specs.Layout.{size_of, most_records}
-use Rattle.reader.specs.Reading.{record_at, no_record, as_gap, gap_in, is_change_record, is_gap, joins, can_hold, may_follow}
+use Rattle.reader.specs.Reading.{record_at, no_record, as_gap, gap_told, last_record, is_change_record, is_gap, joins, can_hold, may_follow}
 use Rattle.reader.proofs.Possible.{last_snoc}
+use Rattle.reader.proofs.Walking.{last_more}
 use Rattle.reader.proofs.Rows.{length_records_in}
 use Rattle.reader.proofs.Exactly.{accepted_whole, records_read, records_fill}
 use Rattle.reader.proofs.Sizes.{most_records_lem}
@@ -29,8 +29,8 @@ use Rattle.reader.proofs.Following.{accepted_next, ticks_rise}
 use Rattle.reader.proofs.PossibleKinds.{accepted_stand}
 use Rattle.channels.specs.declared.Beside.{Beside}
 use Rattle.channels.specs.Totals.{is_change, word_from, lost_in, is_or_more, beside_one, beside_after}
-use Rattle.channels.specs.Bringing.{is_later, matches}
-use Rattle.channels.specs.Walk.{first_of, Reads, join_refusal, Joins, Joined}
+use Rattle.channels.specs.Bringing.{is_later, matches, is_total}
+use Rattle.channels.specs.Walk.{first_of, Reads, joining, lost_told, beside_told, Joins, Joined}
 use Rattle.channels.proofs.Behind.{first_more, beside_first}
 
 -- ---- one record
@@ -61,6 +61,14 @@ lost_is r possible =
 
     two : r.kind ≡ 2 → (as_gap r).value ≡ (if eqb r.kind 1 then 0 else r.value)
     two e = rw e
+
+-- and so it is told
+gap_lost : (r : Record) → lost_told (gap_told (as_gap r)) ≡ (as_gap r).value
+gap_lost r = go (eqb r.kind 2) refl
+  where
+    go : (x : Bool) → eqb r.kind 2 ≡ x → lost_told (gap_told (if x then r else no_record)) ≡ (if x then r else no_record).value
+    go true e = rw e
+    go false e = refl
 
 -- ---- the first records
 
@@ -97,19 +105,23 @@ follows_joins b r may change =
         omega arith
 
 -- the first record of a log, where neither 072 nor 073 is told
-join_says : (x y : Bool) → refusal_of (x or_else 72 >> y or_else 73) ≡ 0 → (x ≡ true) × (y ≡ true)
+join_says : (x y : Bool) → (x or_else 72 >> y or_else 73) ≡ passed tt → (x ≡ true) × (y ≡ true)
 unfolding ◌>>◌ ◌or_else◌
 join_says true true e = (refl, refl)
-join_says true false e = absurd (omega arith)
-join_says false y e = absurd (omega arith)
+join_says true false e = absurd (not_passed e)
+join_says false y e = absurd (not_passed e)
 
-joins_first : (b : Beside) (r : Record) (rs : List Record) → join_refusal b (r ∷ rs) ≡ 0 → Joins (beside_after b []) r
-unfolding join_refusal is_later matches beside_after
+joins_first : (b : Beside) (r : Record) (rs : List Record) → joining b (r ∷ rs) ≡ passed tt → Joins (beside_after b []) r
+unfolding joining is_later matches beside_after
 joins_first b r rs e =
     let x = join_says (leb b.tick r.tick) (eqb r.word b.word) e in
     record { later = leb-true b.tick r.tick x.0; word = λ change. eqb-true r.word b.word x.1 }
 
 -- ---- a log that is read
+
+-- what is kept beside the totals, where the number unknown does not pass the end
+abbrev pub whole : Beside → Option Beside
+whole l = if is_total l.unknown then Some l else None
 
 module _ (t : Told) (log : List ℕ) (reads : Reads t log) where
   abbrev rs : List Record
@@ -137,61 +149,61 @@ module _ (t : Told) (log : List ℕ) (reads : Reads t log) where
     unfolding beside_after
     beside_none e = ap (λ n. beside_after b (first_of n log)) (sym e)
 
-    last_read : (m : ℕ) → t.records ≡ suc m → t.last ≡ record_at Sixteen m log
-    last_read m e =
-        ap (λ (x : Told). x.last) reads.told ∙ ap (λ n. last_of no_record (first_of n log)) (e ∙ sym (add-one m))
-        ∙ ap (last_of no_record) (first_more m log) ∙ last_snoc no_record (first_of m log) (record_at Sixteen m log)
+    last_is : (m : ℕ) → t.records ≡ suc m → last_of no_record (first_of t.records log) ≡ record_at Sixteen m log
+    last_is m e =
+        ap (λ n. last_of no_record (first_of n log)) (e ∙ sym (add-one m)) ∙ ap (last_of no_record) (first_more m log)
+        ∙ last_snoc no_record (first_of m log) (record_at Sixteen m log)
 
-    lost_read : (m : ℕ) → t.records ≡ suc m → t.lost ≡ lost_in t.last
+    last_read : (m : ℕ) → t.records ≡ suc m → t.last ≡ Some (record_at Sixteen m log)
+    last_read m e =
+        ap (λ (x : Told). x.last) reads.told ∙ ap (λ n. last_record (first_of n log)) (e ∙ sym (add-one m))
+        ∙ ap last_record (first_more m log) ∙ last_more (first_of m log) (record_at Sixteen m log)
+
+    lost_read : (m : ℕ) → t.records ≡ suc m → lost_told t.gap ≡ lost_in (record_at Sixteen m log)
     lost_read m e =
         let there = (accepted_stand Sixteen log rs m reads.read (subst (λ k. m < k) (sym (long ∙ e)) (omega arith))).1 in
-        ap (λ (x : Told). x.lost) reads.told ∙ ap (λ r. (as_gap r).value) (sym (ap (λ (x : Told). x.last) reads.told))
-        ∙ lost_is t.last (subst (λ (r : Record). is_kind_and_cause r.kind r.cause ≡ true) (sym (last_read m e)) there)
+        ap (λ (x : Told). lost_told x.gap) reads.told ∙ ap (λ (r : Record). lost_told (gap_told (as_gap r))) (last_is m e)
+        ∙ gap_lost (record_at Sixteen m log) ∙ lost_is (record_at Sixteen m log) there
 
-    pub beside_some : t.records ≢ 0 → {w : ℕ} {more : Bool} → w ≡ word_from t.last → more ≡ (b.more || eqb t.lost 4294967295)
-        → record { tick = t.last.tick; word = w; unknown = b.unknown + t.lost; more = more } ≡ beside_after b (first_of t.records log)
+    beside_some : (m : ℕ) → t.records ≡ suc m → let r = record_at Sixteen m log in
+        record { tick = r.tick; word = word_from r; unknown = b.unknown + lost_told t.gap; more = b.more || eqb (lost_told t.gap) 4294967295 }
+        ≡ beside_after b (first_of t.records log)
     unfolding is_or_more
-    beside_some some {w} {more} word or-more = go t.records refl
-      where
-        go : (k : ℕ) → t.records ≡ k
-            → record { tick = t.last.tick; word = w; unknown = b.unknown + t.lost; more = more } ≡ beside_after b (first_of t.records log)
-        go zero e = absurd (some e)
-        go (suc m) e =
-            let l = beside_after b (first_of m log) in
-            let last = last_read m e in
-            let lost = lost_read m e in
-            let keep = changes_keep b log m (λ j lt. change_before j (subst (λ k. suc j < k) (sym e) (omega arith))) in
-            let is : beside_after b (first_of t.records log) ≡ beside_one l t.last =
-            ap (λ n. beside_after b (first_of n log)) (e ∙ sym (add-one m)) ∙ beside_first b m log ∙ ap (beside_one l) (sym last) in
-            (λ i. record {
-              tick = t.last.tick;
-              word = word i;
-              unknown = (ap (λ n. n + t.lost) (sym keep.0) ∙ ap (λ n. l.unknown + n) lost) i;
-              more = (or-more ∙ ap (λ x. x || eqb t.lost 4294967295) (sym keep.1) ∙ ap (λ n. l.more || eqb n 4294967295) lost) i;
-            })
-            ∙ sym is
+    beside_some m e =
+        let l = beside_after b (first_of m log) in
+        let r = record_at Sixteen m log in
+        let lost = lost_read m e in
+        let keep = changes_keep b log m (λ j lt. change_before j (subst (λ k. suc j < k) (sym e) (omega arith))) in
+        let is : beside_after b (first_of t.records log) ≡ beside_one l r =
+        ap (λ n. beside_after b (first_of n log)) (e ∙ sym (add-one m)) ∙ beside_first b m log in
+        (λ i. record {
+          tick = r.tick;
+          word = word_from r;
+          unknown = (ap (λ n. n + lost_told t.gap) (sym keep.0) ∙ ap (λ n. l.unknown + n) lost) i;
+          more = (ap (λ x. x || eqb (lost_told t.gap) 4294967295) (sym keep.1) ∙ ap (λ n. l.more || eqb n 4294967295) lost) i;
+        })
+        ∙ sym is
 
-    -- the number unknown behind it
-    pub unknown_after : (beside_after b (first_of t.records log)).unknown ≡ b.unknown + t.lost
-    unknown_after = go t.records refl
+    -- what the code keeps beside the totals
+    pub beside_is : b.unknown ≤ 18446744073709551615 → beside_told b t.last (lost_told t.gap) ≡ whole (beside_after b (first_of t.records log))
+    beside_is fits = go t.records refl
       where
-        go : (k : ℕ) → t.records ≡ k → (beside_after b (first_of t.records log)).unknown ≡ b.unknown + t.lost
-        go zero e = ap (λ (x : Beside). x.unknown) (sym (beside_none e)) ∙ sym (ap (λ n. b.unknown + n) (none e) ∙ add-zero b.unknown)
+        go : (k : ℕ) → t.records ≡ k → beside_told b t.last (lost_told t.gap) ≡ whole (beside_after b (first_of t.records log))
+        go zero e =
+            let none : t.last ≡ None = ap (λ (x : Told). x.last) reads.told ∙ ap (λ n. last_record (first_of n log)) e in
+            ap (λ l. beside_told b l (lost_told t.gap)) none ∙ total (is_total b.unknown) (le-leb b.unknown 18446744073709551615 fits) ∙ ap whole (beside_none e)
           where
-            none : t.records ≡ 0 → t.lost ≡ 0
-            none z = ap (λ (x : Told). x.lost) reads.told ∙ ap (λ n. (gap_in (first_of n log)).value) z
-        go (suc m) e = ap (λ (x : Beside). x.unknown) (sym (beside_some (λ z. absurd (differ z)) refl refl))
-          where
-            differ : t.records ≡ 0 → ⊥
-            differ z = omega arith
+            total : (x : Bool) → x ≡ true → Some b ≡ (if x then Some b else None)
+            total x is = rw is
+        go (suc m) e = ap (λ l. beside_told b l (lost_told t.gap)) (last_read m e) ∙ ap whole (beside_some m e)
 
     -- each record joins to the one before it, where the first joins to what was read last
-    pub joined_all : join_refusal b (first_of t.records log) ≡ 0 → Joined b t.records log
+    pub joined_all : joining b (first_of t.records log) ≡ passed tt → Joined b t.records log
     joined_all fine zero lt = first_joins t.records refl
       where
         first_joins : (k : ℕ) → t.records ≡ k → Joins (beside_after b (first_of 0 log)) (record_at Sixteen 0 log)
         first_joins zero e = absurd (omega arith)
-        first_joins (suc m) e = joins_first b (record_at Sixteen 0 log) (first_of m (drop 16 log)) (ap (λ n. join_refusal b (first_of n log)) (sym e) ∙ fine)
+        first_joins (suc m) e = joins_first b (record_at Sixteen 0 log) (first_of m (drop 16 log)) (ap (λ n. joining b (first_of n log)) (sym e) ∙ fine)
     joined_all fine (suc k) lt =
         let may = accepted_next Sixteen log rs k reads.read (subst (λ m. suc k < m) (sym long) lt) in
         let x = ticks_rise Sixteen log rs k reads.read (subst (λ m. suc k < m) (sym long) lt) in
@@ -201,3 +213,18 @@ module _ (t : Told) (log : List ℕ) (reads : Reads t log) where
           later = x.1;
           word = λ change. follows_joins (record_at Sixteen k log) (record_at Sixteen (suc k) log) may change ∙ sym (own_word (record_at Sixteen k log) x.0);
         })
+
+-- what is kept, or that a total would pass the end
+pub kept_is : {l a : Beside} → Some a ≡ whole l → (a ≡ l) × (is_total l.unknown ≡ true)
+kept_is {l} {a} e = go (is_total l.unknown) refl e
+  where
+    go : (x : Bool) → is_total l.unknown ≡ x → Some a ≡ (if x then Some l else None) → (a ≡ l) × (is_total l.unknown ≡ true)
+    go true f z = (cc, f)
+    go false f z = absurd (cc)
+
+pub none_is : (l : Beside) → None ≡ whole l → is_total l.unknown ≡ false
+none_is l e = go (is_total l.unknown) refl e
+  where
+    go : (x : Bool) → is_total l.unknown ≡ x → None ≡ (if x then Some l else None) → is_total l.unknown ≡ false
+    go true f z = absurd (cc)
+    go false f z = f

@@ -6,7 +6,7 @@ pub mod Ending
 pub mod LastRead
 pub mod Counting
 pub mod Thin
-pub mod ByValue
+pub mod Elements
 pub mod Refusing
 pub mod Places
 pub mod Examples

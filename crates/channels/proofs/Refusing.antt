@@ -29,7 +29,7 @@ use Rattle.channels.specs.Bringing.{is_sixteen, log_for, is_later, matches, is_t
 use Rattle.channels.specs.Reasons.{records_of_log, most_total, PassesEnd, closings, openings, ticks, unknown}
 use Rattle.channels.specs.Reasons.{Reason, FirstReason, e075, by_reader, e051, e072, e073, e074}
 use Rattle.channels.proofs.Counting.{reading_numbers}
-use Rattle.channels.proofs.ByValue.{not_at, first_not}
+use Rattle.channels.proofs.Elements.{not_at, first_not}
 
 -- ---- the checks, in their order
 

@@ -3,3 +3,4 @@ pub mod Bringing
 pub mod Reasons
 pub mod Adding
 pub mod Walk
+pub mod Numbers

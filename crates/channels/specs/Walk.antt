@@ -1,9 +1,10 @@
 -- How the code goes about it: one walk over the records of a log for all channels, and then each channel's record by itself. Nobody has to believe this.
-use Rattle.std.specs.Prelude.{ℕ, ◌+◌, ◌-◌, ◌%◌, ◌≤◌, ◌<◌, ◌≡◌, ◌≢◌, Bool, true, false, List, length, get_or, eqb}
+use Rattle.std.specs.Prelude.{ℕ, ◌+◌, ◌-◌, ◌%◌, ◌≤◌, ◌<◌, ◌≡◌, Bool, true, false, ◌||◌, List, length, get_or, eqb, Option, Some, None}
 use Rattle.std.specs.Prelude.{if◌then◌else◌}
-use Rattle.formats.specs.Checks.{refused, passed, refusal_of, ◌>>◌, ◌or_else◌}
+use Rattle.formats.specs.Checks.{Res, refused, passed, ◌>>◌, ◌or_else◌}
 use Rattle.reader.specs.declared.Record.{Record}
 use Rattle.reader.specs.declared.Told.{Told}
+use Rattle.reader.specs.declared.Gap.{Gap}
 use Rattle.reader.specs.declared.Layout.TheVariants.{Sixteen}
 use Rattle.reader.specs.Layout.{records_in}
 use Rattle.reader.specs.Reading.{record_at, reading_as, told}
@@ -11,8 +12,7 @@ use Rattle.channels.specs.declared.Channel.{Channel}
 use Rattle.channels.specs.declared.Beside.{Beside}
 use Rattle.channels.specs.declared.Gain.{Gain}
 use Rattle.channels.specs.declared.Counts.{Counts}
-use Rattle.channels.specs.declared.Moved.{Moved}
-use Rattle.channels.specs.Totals.{is_closed, is_change, closes, opens, count_of, ticks_closed, beside_after, unused}
+use Rattle.channels.specs.Totals.{is_closed, is_change, word_from, closes, opens, count_of, ticks_closed, beside_after}
 use Rattle.channels.specs.Bringing.{log_for, is_later, matches, is_total, are_totals}
 
 -- ---- the log
@@ -26,9 +26,22 @@ pub record Reads (t : Told) (log : List ℕ) : Type 0 where
   pub read : reading_as Sixteen log ≡ passed (first_of t.records log)
   pub told : t ≡ told Sixteen (first_of t.records log)
 
--- 072 and 073, 0 where neither is told
-unfoldable pub join_refusal : Beside → List Record → ℕ
-join_refusal b rs = refusal_of (is_later b rs or_else 72 >> matches b rs or_else 73)
+-- 072 and 073, where one is told
+unfoldable pub joining : Beside → List Record → Res (Unit {0})
+joining b rs = is_later b rs or_else 72 >> matches b rs or_else 73
+
+-- the number lost, by what the reader told of a gap
+abbrev pub lost_told : Option Gap → ℕ
+lost_told None = 0
+lost_told (Some g) = g.lost
+
+-- what is kept beside the totals, by what the reader told of the last record and of a gap, where the number unknown does not pass the end
+abbrev pub beside_told : Beside → Option Record → ℕ → Option Beside
+beside_told b None lost = Some b
+beside_told b (Some r) lost =
+    if is_total (b.unknown + lost)
+    then Some (record { tick = r.tick; word = word_from r; unknown = b.unknown + lost; more = b.more || eqb lost 4294967295 })
+    else None
 
 -- the record r joins to what was read last
 pub record Joins (b : Beside) (r : Record) : Type 0 where
@@ -99,39 +112,39 @@ pub record Brings (i : ℕ) (b : Beside) (rs : List Record) (g : Gain) : Type 0 
 abbrev pub AllBring : Beside → List Record → List Gain → Type 0
 AllBring b rs gains = (i : ℕ) → i < 32 → Brings i b rs (get_or gains i no_gain)
 
--- ---- what a log brings
+-- ---- what a log brings, where there are n channel records
 
--- by its records
-pub data CountedAfter (b : Beside) (rs : List Record) (k : Counts) : Type 0 where
-  stops : k.refusal ≢ 0 → join_refusal b rs ≡ k.refusal → CountedAfter b rs k
-  lost : k.refusal ≡ 74 → join_refusal b rs ≡ 0 → is_total (beside_after b rs).unknown ≡ false → CountedAfter b rs k
-  goes : k.refusal ≡ 0 → join_refusal b rs ≡ 0 → is_total (beside_after b rs).unknown ≡ true → AllBring b rs k.gains
-      → k.beside ≡ beside_after b rs → CountedAfter b rs k
+pub record Counting (n : ℕ) (log : List ℕ) (b : Beside) (k : Counts) : Type 0 where
+  pub records : List Record
+  pub read : log_for n log ≡ passed records
+  pub joins : joining b records ≡ passed tt
+  pub total : is_total (beside_after b records).unknown ≡ true
+  pub bring : AllBring b records k.gains
+  pub beside : k.beside ≡ beside_after b records
 
--- where there are n channel records
-pub data Counted (n : ℕ) (log : List ℕ) (b : Beside) (k : Counts) : Type 0 where
-  unread : k.refusal ≢ 0 → log_for n log ≡ refused k.refusal → Counted n log b k
-  read : (rs : List Record) → log_for n log ≡ passed rs → CountedAfter b rs k → Counted n log b k
+-- or why it brings nothing
+pub data Stopped (n : ℕ) (log : List ℕ) (b : Beside) (e : ℕ) : Type 0 where
+  unread : log_for n log ≡ refused e → Stopped n log b e
+  apart : (rs : List Record) → log_for n log ≡ passed rs → joining b rs ≡ refused e → Stopped n log b e
+  lost : (rs : List Record) → log_for n log ≡ passed rs → joining b rs ≡ passed tt → is_total (beside_after b rs).unknown ≡ false → e ≡ 74
+      → Stopped n log b e
+
+abbrev pub Counted : ℕ → List ℕ → Beside → Res Counts → Type 0
+Counted n log b (refused e) = Stopped n log b e
+Counted n log b (passed k) = Counting n log b k
 
 -- ---- one channel's record
 
 abbrev pub sum_with : Channel → Gain → Channel
 sum_with c g = record { closings = c.closings + g.closings; openings = c.openings + g.openings; ticks = c.ticks + g.ticks }
 
-abbrev pub sum_of : Channel → Counts → ℕ → Channel
-sum_of c k i = sum_with c (get_or k.gains i no_gain)
+abbrev pub moved_of : Channel → Gain → Option Channel
+moved_of c g = if are_totals (sum_with c g) then Some (sum_with c g) else None
 
-unfoldable pub moved_of : Channel → Counts → ℕ → Moved
-moved_of c k i = if are_totals (sum_of c k i) then record { fits = true; channel = sum_of c k i } else record { fits = false; channel = c }
+-- ---- the record of the channel at place i
 
-abbrev pub fits_of : Counts → Channel → ℕ → Bool
-fits_of k c i = (moved_of c k i).fits
+abbrev pub fits_of : List Gain → Channel → ℕ → Bool
+fits_of gains c i = are_totals (sum_with c (get_or gains i no_gain))
 
-abbrev pub next_of : Counts → Channel → ℕ → Channel
-next_of k c i = (moved_of c k i).channel
-
--- ---- all of them, by value: the first n are brought forward, and fit
-pub record Partly (cs : List Channel) (k : Counts) (n : ℕ) (ms : List Channel) : Type 0 where
-  pub count : length ms ≡ length cs
-  pub fit : (i : ℕ) → i < n → i < length cs → fits_of k (get_or cs i unused) i ≡ true
-  pub done : (i : ℕ) → i < n → i < length cs → get_or ms i unused ≡ next_of k (get_or cs i unused) i
+abbrev pub next_of : List Gain → Channel → ℕ → Channel
+next_of gains c i = if fits_of gains c i then sum_with c (get_or gains i no_gain) else c

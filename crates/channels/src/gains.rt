@@ -9,26 +9,15 @@ use crate::{Beside, Gain};
 use reader::{Layout, Record};
 
 // The word from a record on: a change's own, and the one that a gap stores.
+#[tactic(auto, unfolding(crate::specs::Totals::word_from))]
 pub fn word_from(r: Record) -> u32
     ensures word { result ≡ word_from r }
 {
-    if r.kind == 1 {
-        return r.value;
-    }
-    r.word
-}
-
-// 1 for a change, whose closings and openings count.
-fn counts_of(r: Record) -> u32
-    ensures counted { result ≡ one_if (is_change r) }
-{
-    if r.kind == 1 {
-        return 1;
-    }
-    0
+    if r.kind == 1 { r.value } else { r.word }
 }
 
 // The channel at place i is closed in the word.
+#[tactic(auto, unfolding(crate::specs::Totals::is_closed))]
 fn is_closed(word: u32, i: usize) -> bool
     requires { i < 32 }
     ensures closed { result ≡ is_closed i word }
@@ -37,6 +26,7 @@ fn is_closed(word: u32, i: usize) -> bool
 }
 
 // Of a channel that a record switches: its bit after it is the lowest of w. Without a branch, since nobody can foresee which way it goes.
+#[tactic(auto, using(crate::proofs::Switching::switched_by))]
 fn switched(gain: Gain, w: u32, tick: u32, counted: u32) -> Gain
     requires { (gain.since ≤ tick) × (gain.ticks ≤ gain.since) × (counted ≤ 1) × (gain.closings < 8192) × (gain.openings < 8192) }
     ensures switched { result ≡ switched_of gain w tick counted }
@@ -52,14 +42,16 @@ fn switched(gain: Gain, w: u32, tick: u32, counted: u32) -> Gain
 }
 
 // The ticks for which a channel was closed, up to the last record.
+#[tactic(auto, unfolding(crate::specs::Walk::closed_for))]
 fn closed_for(gain: Gain, last: Beside, i: usize) -> u32
     requires { (i < 32) × (gain.since ≤ last.tick) × (gain.ticks ≤ gain.since) }
     ensures ticks { result ≡ closed_for gain last i }
 {
     if is_closed(last.word, i) {
-        return gain.ticks + (last.tick - gain.since);
+        gain.ticks + (last.tick - gain.since)
+    } else {
+        gain.ticks
     }
-    gain.ticks
 }
 
 // Before the first record: nothing, from that tick on.
@@ -81,17 +73,8 @@ fn ended(begun: [Gain; 32], last: Beside) -> [Gain; 32]
     ensures ended { AllEnded begun last result }
 {
     let mut gains = begun;
-    let mut i: usize = 0;
-    while i < 32 {
-        let gain = begun[i];
-        let ticks = closed_for(gain, last, i);
-        gains[i] = Gain {
-            closings: gain.closings,
-            openings: gain.openings,
-            ticks,
-            since: gain.since,
-        };
-        i += 1;
+    for (i, gain) in gains.iter_mut().enumerate() {
+        gain.ticks = closed_for(*gain, last, i);
     }
     gains
 }
@@ -103,20 +86,19 @@ fn walked(log: &[u8], n: usize, beside: Beside) -> [Gain; 32]
 {
     let mut gains = begun(beside.tick);
     let mut word = beside.word;
-    let mut k: usize = 0;
-    while k < n {
+    for k in 0..n {
         let r = reader::record_at(Layout::Sixteen, log, k);
-        let counted = counts_of(r);
+        // the closings and openings of a change count, and those of a gap do not
+        let counted = u32::from(r.kind == 1);
         let next = word_from(r);
         let mut altered = word ^ next;
         while altered != 0 {
-            let at = u32::trailing_zeros(altered);
+            let at = altered.trailing_zeros();
             let i = at as usize;
             gains[i] = switched(gains[i], next >> at, r.tick, counted);
-            altered = altered & (altered - 1);
+            altered &= altered - 1;
         }
         word = next;
-        k += 1;
     }
     gains
 }

@@ -1,18 +1,20 @@
 // Switching totals: how often each of the 32 channels closed and opened, and for how many ticks it was closed, by logs in the order of their emptying.
 // Definitions: specs/Totals.antt for what the records of a log say of a channel, specs/Bringing.antt for what comes of a log.
-// The function that brings the caller's records forward where they stand is in the crate nizhalepu; here are its parts, and the same by value.
 #![tactic(auto)]
 
-ghost use Rattle.std.specs.Prelude.{◌≡◌, true, not, ◌+◌, ◌*◌, ◌≤◌, ◌<◌, length};
-ghost use Rattle.formats.specs.Checks.{refused as refused_with};
+ghost use Rattle.std.specs.Prelude.{◌≡◌, ◌*◌, ◌≤◌, length};
+ghost use Rattle.std.specs.List.{zip, list_all};
+ghost use Rattle.formats.specs.Numbers.{res_of};
 ghost use Rattle.reader.specs.declared.Layout.TheVariants.{Sixteen};
 ghost use Rattle.reader.specs.Layout.{size_of};
-ghost use Rattle.reader.specs.Reading.{answer_of as read_answer};
-ghost use Rattle.channels.specs.Totals.{beside_after};
-ghost use Rattle.channels.specs.Bringing.{log_for, is_total, are_totals, bringing, held_of};
-ghost use Rattle.channels.specs.Walk.{first_of, Reads, join_refusal, CountedAfter, Counted, sum_with, moved_of};
+ghost use Rattle.reader.specs.Reading.{told_of};
+ghost use Rattle.channels.specs.Numbers.{number_of, distinct, Read as by_reader};
+ghost use Rattle.channels.specs.Totals.{map_from};
+ghost use Rattle.channels.specs.Bringing.{log_for, are_totals, bringing, beside_of, records_of};
+ghost use Rattle.channels.specs.Walk.{first_of, joining, beside_told, lost_told, Counted, sum_with, moved_of, next_of};
 
-use reader::{Answer as Read, Layout, Told};
+use formats::Numbered;
+use reader::{Layout, Told};
 
 mod gains;
 
@@ -36,6 +38,7 @@ pub struct Beside {
 }
 
 // The number of the refusal, 0 where there is none, and what is kept beside the records then.
+// Kept: the C interface has this struct.
 #[repr(C)]
 #[derive(Clone, Copy)]
 pub struct Answer {
@@ -53,203 +56,173 @@ pub struct Gain {
     pub since: u32,
 }
 
-// What a log brings the channels, and what is kept beside their records then; or the number of its refusal, and the rest means nothing.
+// What a log brings the channels, and what is kept beside their records then.
 #[derive(Clone, Copy)]
-pub struct Counts {
-    pub refusal: u8,
-    pub gains: [Gain; 32],
-    pub beside: Beside,
+struct Counts {
+    gains: [Gain; 32],
+    beside: Beside,
 }
 
-// A channel's record brought forward; or as it was, where a total would pass the end.
-#[derive(Clone, Copy)]
-pub struct Moved {
-    pub fits: bool,
-    pub channel: Channel,
+// Why a log is refused.
+#[derive(Clone, Copy, Debug, PartialEq, Eq)]
+pub enum Refusal {
+    // the reader refuses it; and of 12-byte records, which it accepts, as one of the wrong mark
+    Read(reader::Refusal),
+    // its first tick is earlier than the last one read
+    Earlier,
+    // its first earlier word is not the last word read
+    OtherWord,
+    // a total would pass the end
+    PassesEnd,
+    // there are other than 32 channel records
+    OtherCount,
 }
 
-// The 32 records by value, and the answer.
-#[derive(Clone, Copy)]
-pub struct Held {
-    pub channels: [Channel; 32],
-    pub answer: Answer,
+impl Numbered for Refusal {
+    ghost number_of = { number_of };
+
+    fn number(self) -> u8 {
+        match self {
+            Refusal::Read(e) => e.number(),
+            Refusal::Earlier => 72,
+            Refusal::OtherWord => 73,
+            Refusal::PassesEnd => 74,
+            Refusal::OtherCount => 75,
+        }
+    }
+
+    ghost distinct = { distinct };
+}
+
+impl From<reader::Refusal> for Refusal {
+    ghost from_gives = { λ e r. r ≡ by_reader e };
+
+    fn from(e: reader::Refusal) -> Refusal {
+        Refusal::Read(e)
+    }
 }
 
 // ---- a log
 
 // What the reader tells of a log of 16-byte records, where there are n channel records.
-fn read_for(n: usize, log: &[u8]) -> Read
-    ensures answer { result ≡ read_answer Sixteen (log_for n log.now) }
+fn read_for(n: usize, log: &[u8]) -> Result<Told, Refusal>
+    ensures answer { res_of number_of result ≡ told_of Sixteen (log_for n log.now) }
 {
     if n != 32 {
-        return Read::Refused(75);
+        return Err(Refusal::OtherCount);
     }
-    match reader::read(log) {
-        Read::Refused(e) => Read::Refused(e),
-        Read::Log(told) => {
-            let layout = told.layout;
-            if let Layout::Twelve = layout {
-                return Read::Refused(51);
-            }
-            Read::Log(told)
-        }
+    let told = reader::read(log)?;
+    match told.layout {
+        Layout::Twelve => Err(Refusal::Read(reader::Refusal::WrongMark)),
+        Layout::Sixteen => Ok(told),
     }
 }
 
-// 072 or 073, 0 where the first of the n records of a log joins to the last one read.
-fn join_refusal(n: usize, log: &[u8], beside: Beside) -> u8
+// The first of the n records of a log, where there is one, joins to the last one read.
+fn join(n: usize, log: &[u8], beside: Beside) -> Result<(), Refusal>
     requires { size_of Sixteen * n ≤ length log.now }
-    ensures refusal { result ≡ join_refusal beside (first_of n log.now) }
+    ensures joins { res_of number_of result ≡ joining beside (first_of n log.now) }
 {
     if n == 0 {
-        return 0;
+        return Ok(());
     }
     let first = reader::record_at(Layout::Sixteen, log, 0);
     if first.tick < beside.tick {
-        return 72;
+        return Err(Refusal::Earlier);
     }
     if first.word != beside.word {
-        return 73;
+        return Err(Refusal::OtherWord);
     }
-    0
+    Ok(())
 }
 
-// A total with so much more would pass the end.
-fn passes_end(total: u64, more: u32) -> bool
-    ensures passes { result ≡ not (is_total (total + more)) }
+// What is kept beside the totals behind a log, where the number unknown does not pass the end.
+fn beside_after(told: Told, beside: Beside) -> Option<Beside>
+    ensures after { result ≡ beside_told beside told.last (lost_told told.gap) }
 {
-    u64::MAX - total < more as u64
-}
-
-// What is kept beside the totals behind a log.
-fn beside_after(told: Told, log: &[u8], beside: Beside) -> Beside
-    requires { Reads told log.now × (is_total (beside.unknown + told.lost) ≡ true) }
-    ensures after { result ≡ beside_after beside (first_of told.records log.now) }
-{
-    if told.records == 0 {
-        return beside;
-    }
-    let last = told.last;
-    Beside {
+    let Some(last) = told.last else {
+        return Some(beside);
+    };
+    let lost = told.gap.map_or(0, |gap| gap.lost);
+    let unknown = beside.unknown.checked_add(lost as u64)?;
+    Some(Beside {
         tick: last.tick,
         word: gains::word_from(last),
-        unknown: beside.unknown + told.lost as u64,
-        more: beside.more || told.lost == u32::MAX,
-    }
-}
-
-// A log that is refused.
-fn refused(refusal: u8, beside: Beside) -> Counts
-    ensures number { result.refusal ≡ refusal }
-{
-    Counts {
-        refusal,
-        gains: gains::begun(0),
-        beside,
-    }
-}
-
-// What the records of a log bring, if they join to what was read last.
-fn counted(told: Told, log: &[u8], beside: Beside) -> Counts
-    requires { Reads told log.now }
-    ensures counted { CountedAfter beside (first_of told.records log.now) result }
-{
-    let refusal = join_refusal(told.records, log, beside);
-    if refusal != 0 {
-        return refused(refusal, beside);
-    }
-    if passes_end(beside.unknown, told.lost) {
-        return refused(74, beside);
-    }
-    let after = beside_after(told, log, beside);
-    let gains = gains::gained(log, told.records, beside, after);
-    Counts {
-        refusal: 0,
-        gains,
-        beside: after,
-    }
+        unknown,
+        more: beside.more || lost == u32::MAX,
+    })
 }
 
 // What a log brings n channel records, but for a total of theirs that would pass the end; or its refusal.
-pub fn count(n: usize, log: &[u8], beside: Beside) -> Counts
-    ensures counted { Counted n log.now beside result }
+fn count(n: usize, log: &[u8], beside: Beside) -> Result<Counts, Refusal>
+    ensures counted { Counted n log.now beside (res_of number_of result) }
 {
-    match read_for(n, log) {
-        Read::Refused(e) => refused(e, beside),
-        Read::Log(told) => counted(told, log, beside),
-    }
+    let told = read_for(n, log)?;
+    join(told.records, log, beside)?;
+    let after = beside_after(told, beside).ok_or(Refusal::PassesEnd)?;
+    let gains = gains::gained(log, told.records, beside, after);
+    Ok(Counts {
+        gains,
+        beside: after,
+    })
 }
 
 // ---- the channels' records
 
-// A channel's totals with its gain do not pass the end.
-fn in_reach(channel: Channel, gain: Gain) -> bool
-    ensures reach { result ≡ are_totals (sum_with channel gain) }
+// The record of a channel, brought forward, where no total passes the end.
+#[tactic(auto, unfolding(crate::specs::Bringing::are_totals))]
+fn forward(channel: Channel, gain: Gain) -> Option<Channel>
+    ensures moved { result ≡ moved_of channel gain }
 {
-    if passes_end(channel.closings, gain.closings) {
-        return false;
-    }
-    if passes_end(channel.openings, gain.openings) {
-        return false;
-    }
-    !passes_end(channel.ticks, gain.ticks)
+    Some(Channel {
+        closings: channel.closings.checked_add(gain.closings as u64)?,
+        openings: channel.openings.checked_add(gain.openings as u64)?,
+        ticks: channel.ticks.checked_add(gain.ticks as u64)?,
+    })
 }
 
-// The record of the channel at place i, brought forward.
-pub fn forward(channel: Channel, counts: Counts, i: usize) -> Moved
-    requires { i < 32 }
-    ensures moved { result ≡ moved_of channel counts i }
+// No total of a channel passes the end.
+fn fits(channel: Channel, gain: Gain) -> bool
+    ensures fits { result ≡ are_totals (sum_with channel gain) }
 {
-    let gain = counts.gains[i];
-    if !in_reach(channel, gain) {
-        return Moved {
-            fits: false,
-            channel,
-        };
-    }
-    let channel = Channel {
-        closings: channel.closings + gain.closings as u64,
-        openings: channel.openings + gain.openings as u64,
-        ticks: channel.ticks + gain.ticks as u64,
-    };
-    Moved {
-        fits: true,
-        channel,
-    }
+    forward(channel, gain).is_some()
 }
 
-// The 32 records as they were, and a refusal.
-fn kept(channels: [Channel; 32], refusal: u8, beside: Beside) -> Held
-    ensures kept { result ≡ held_of channels beside (refused_with refusal) }
+// No total of any channel passes the end.
+fn all_fit(channels: &[Channel], gains: &[Gain; 32]) -> bool
+    ensures fit { result ≡ list_all (λ p. are_totals (sum_with p.0 p.1)) (zip channels.now gains.now) }
 {
-    Held {
-        channels,
-        answer: Answer { refusal, beside },
-    }
+    channels
+        .iter()
+        .zip(gains)
+        .all(|(channel, gain)| fits(*channel, *gain))
 }
 
-// The 32 records by value, brought forward by a log.
-pub fn brought(channels: [Channel; 32], log: &[u8], beside: Beside) -> Held
-    ensures held { result ≡ held_of channels beside (bringing channels log.now beside) }
+// The records of the channels, each brought forward if it fits.
+fn bring(channels: &mut [Channel], gains: &[Gain; 32])
+    requires { length channels.old ≡ 32 }
+    ensures brought { channels.new ≡ map_from (next_of gains.now) channels.old 0 }
 {
-    let counts = count(32, log, beside);
-    if counts.refusal != 0 {
-        return kept(channels, counts.refusal, beside);
-    }
-    let mut forward_all = channels;
-    let mut i: usize = 0;
-    while i < 32 {
-        let moved = forward(channels[i], counts, i);
-        if !moved.fits {
-            return kept(channels, 74, beside);
+    for (i, channel) in channels.iter_mut().enumerate() {
+        if let Some(next) = forward(*channel, gains[i]) {
+            *channel = next;
         }
-        let next = moved.channel;
-        forward_all[i] = next;
-        i += 1;
     }
-    let beside = counts.beside;
-    Held {
-        channels: forward_all,
-        answer: Answer { refusal: 0, beside },
+}
+
+// The 32 records brought forward by a log where they stand, all of them or, where it is refused, none; and what is kept beside them then.
+pub fn bring_forward(
+    channels: &mut [Channel],
+    log: &[u8],
+    beside: Beside,
+) -> Result<Beside, Refusal>
+    ensures answer { res_of number_of result ≡ beside_of (bringing channels.old log.now beside) }
+    ensures records { channels.new ≡ records_of channels.old (bringing channels.old log.now beside) }
+{
+    let counts = count(channels.len(), log, beside)?;
+    if !all_fit(channels, &counts.gains) {
+        return Err(Refusal::PassesEnd);
     }
+    bring(channels, &counts.gains);
+    Ok(counts.beside)
 }

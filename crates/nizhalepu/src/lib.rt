@@ -24,6 +24,7 @@ ghost use Rattle.channels.specs.Bringing.{bringing, answer_of, records_of};
 use calls::SwitchBox;
 use channels::{Beside, Channel};
 use duration::Answer;
+use formats::Numbered;
 
 // What a call says; the state stays in the record.
 #[repr(C)]
@@ -237,32 +238,14 @@ pub extern "C" fn nizhalepu_bring_forward(
     ensures records { channels.new
         ≡ records_of channels.old (bringing channels.old log.now beside) }
 {
-    let counts = channels::count(channels.len(), log, beside);
-    if counts.refusal != 0 {
-        return channels::Answer {
-            refusal: counts.refusal,
+    match channels::bring_forward(channels, log, beside) {
+        Ok(next) => channels::Answer {
+            refusal: 0,
+            beside: next,
+        },
+        Err(e) => channels::Answer {
+            refusal: e.number(),
             beside,
-        };
-    }
-    let mut i: usize = 0;
-    while i < 32 {
-        let moved = channels::forward(channels[i], counts, i);
-        if !moved.fits {
-            return channels::Answer {
-                refusal: 74,
-                beside,
-            };
-        }
-        i += 1;
-    }
-    let mut j: usize = 0;
-    while j < 32 {
-        let moved = channels::forward(channels[j], counts, j);
-        channels[j] = moved.channel;
-        j += 1;
-    }
-    channels::Answer {
-        refusal: 0,
-        beside: counts.beside,
+        },
     }
 }

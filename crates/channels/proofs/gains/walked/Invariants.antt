@@ -1,6 +1,5 @@
 -- `channels::gains::walked` meets its contract: the outer loop keeps what the records so far bring, the inner one which bits are still to be gone through.
 -- Assumes nothing.
-use Prim.Native.Nat.{◌-◌}
 use Rattle.channels.proofs.Walking.{Walks, Bits}
 use Rattle.channels.proofs.gains.walked.Given as goal
 
@@ -12,6 +11,3 @@ decreases-loop-altered l = l.altered
 
 abbrev pub invariant-loop-k : goal.invariant-loop-k
 invariant-loop-k l = Walks l.log l.n l.initial.gains l.initial.word l.gains l.word l.k
-
-abbrev pub decreases-loop-k : goal.decreases-loop-k
-decreases-loop-k l = l.n - l.k
