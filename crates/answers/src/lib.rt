@@ -6,38 +6,33 @@
 ghost use Rattle.std.specs.Prelude.{◌≡◌, ◌≤◌, length};
 ghost use Rattle.lines.specs.Program.{IsProgram};
 ghost use Rattle.formats.specs.Checks.{text};
+ghost use Rattle.formats.specs.Errors.{number_of};
+ghost use Rattle.formats.specs.Numbers.{res_of};
 ghost use Rattle.formats.specs.Digits.{error_text};
 ghost use Rattle.formats.specs.Writing.{Wrote};
 ghost use Rattle.special.specs.Special.{mode_of};
 ghost use Rattle.variables.specs.Variables.{value};
 ghost use Rattle.wire.specs.Invariant.{WireInvariant};
-ghost use Rattle.wire.specs.HeardCommand.{heard_of};
 ghost use Rattle.controller.specs.declared.Controller.{Controller};
 ghost use Rattle.controller.specs.Controller.{with_panel};
 ghost use Rattle.controller.specs.Deeds.{read, ended, asked};
 
+use formats::Error;
 use running::Run;
 use special::Mode;
 use variables::Panel;
-use wire::{Asked, Heard, Wire};
+use wire::{Asked, Wire};
 
 // What the command collected so far asks for, by the seven checks; a read of a Bad line, behind them, is E024.
-pub fn asked(w: Wire, mode: Mode, panel: Panel, program: &[u8]) -> Heard
+pub fn asked(w: Wire, mode: Mode, panel: Panel, program: &[u8]) -> Result<Asked, Error>
     requires { WireInvariant w × IsProgram program.now }
     ensures heard { (c : Controller) → c.wire ≡ w → mode_of c.run.on c.paused ≡ mode → c.panel ≡ panel
-        → result ≡ heard_of (asked c program.now) }
+        → res_of number_of result ≡ asked c program.now }
 {
-    let heard = wire::command(w, mode, panel.parameter);
-    let Heard::Is(q) = heard else {
-        return heard;
-    };
-    let Asked::Read(k) = q else {
-        return heard;
-    };
-    if variables::is_bad_at(panel, program, k) {
-        return Heard::Error(24);
+    match wire::command(w, mode, panel.parameter)? {
+        Asked::Read(k) if variables::is_bad_at(panel, program, k) => Err(Error::BadLine),
+        q => Ok(q),
     }
-    heard
 }
 
 // The panel after a read of k: that of 212 clears the event.
@@ -45,17 +40,18 @@ pub fn panel_read(panel: Panel, k: u8) -> Panel
     ensures panel { (c : Controller) → with_panel result c ≡ read k (with_panel panel c) }
 {
     if k == 212 {
-        return panel.with_event(0, false);
+        panel.with_event(0, false)
+    } else {
+        panel
     }
-    panel
 }
 
 // ---- the three replies, each ended by byte 13; the bytes behind it stay, and its length is returned
 
 // E and the number of the error.
-pub fn reply_error(e: u8, reply: &mut [u8]) -> usize
+pub fn reply_error(e: Error, reply: &mut [u8]) -> usize
     requires { 16 ≤ length reply.old }
-    ensures wrote { Wrote 0 (ended (error_text e)) reply.old result reply.new }
+    ensures wrote { Wrote 0 (ended (error_text (number_of e))) reply.old result reply.new }
 {
     let at = formats::put_error(reply, 0, e);
     formats::put_char(reply, at, 13)
@@ -82,7 +78,7 @@ pub fn reply_ok(reply: &mut [u8]) -> usize
     requires { 16 ≤ length reply.old }
     ensures wrote { Wrote 0 (ended (text "OK")) reply.old result reply.new }
 {
-    let first = formats::put_char(reply, 0, b'O');
-    let second = formats::put_char(reply, first, b'K');
-    formats::put_char(reply, second, 13)
+    let ok = b"OK\r";
+    reply[..ok.len()].copy_from_slice(ok);
+    ok.len()
 }

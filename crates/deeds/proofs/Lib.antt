@@ -1,3 +1,2 @@
 pub mod Moves
 pub mod Commands
-pub mod Reach

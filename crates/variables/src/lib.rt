@@ -16,7 +16,7 @@ use running::Run;
 
 // The variables that stand beside the program, the run and the wire.
 #[repr(C)]
-#[derive(Clone, Copy)]
+#[derive(Clone, Copy, Debug, PartialEq, Eq)]
 pub struct Panel {
     // 200, the single command, in the eight bytes of a line
     pub single: [u8; 8],
@@ -34,9 +34,8 @@ impl Panel {
     pub fn fresh() -> Panel
         ensures panel { result ≡ fresh_panel }
     {
-        let single = lines::bytes_of(lines::end_mark());
         Panel {
-            single,
+            single: lines::bytes_of(lines::end_mark()),
             parameter: 0,
             special: 0,
             event: 12,
@@ -48,8 +47,7 @@ impl Panel {
     pub fn with_single(mut self, l: Line) -> Panel
         ensures panel { result ≡ with_single (bytes_of l) self }
     {
-        let bytes = lines::bytes_of(l);
-        self.single = bytes;
+        self.single = lines::bytes_of(l);
         self
     }
 
@@ -79,33 +77,26 @@ impl Panel {
     }
 }
 
-// ---- bits
-
-// How many bits of the output word stand below the byte at 203-206.
-fn bits_below(k: u8) -> u32
-    requires { (203 ≤ k) × (k ≤ 206) }
-    ensures bits { result ≡ 8 * (206 - k) }
-{
-    8 * ((206 - k) as u32)
-}
+// ---- the bytes of the output word, and the status
 
 // The byte of the output word that 203-206 shows.
+#[tactic(auto, unfolding(crate::specs::Variables::output_byte))]
 pub fn output_byte(word: u32, k: u8) -> u8
     requires { (203 ≤ k) × (k ≤ 206) }
     ensures byte { result ≡ output_byte k word }
 {
-    let s = bits_below(k);
-    ((word >> s) % 256) as u8
+    formats::four_bytes(word)[(k - 203) as usize]
 }
 
 // The output word with the byte x at 203-206: its eight bits are altered, and no other bit.
+#[tactic(auto, unfolding(crate::specs::Variables::with_output_byte))]
 pub fn with_output_byte(word: u32, k: u8, x: u8) -> u32
     requires { (203 ≤ k) × (k ≤ 206) }
     ensures word { result ≡ with_output_byte k x word }
 {
-    let s = bits_below(k);
-    let mask: u32 = 0xFF << s;
-    (word & !mask) | ((x as u32) << s)
+    let mut bytes = formats::four_bytes(word);
+    bytes[(k - 203) as usize] = x;
+    formats::number_of_four(bytes[0], bytes[1], bytes[2], bytes[3])
 }
 
 // The byte at 201: D7 unread event, D1 running, D0 paused.
@@ -117,71 +108,31 @@ pub fn status(unread: bool, on: bool, paused: bool) -> u8
 
 // ---- reads
 
-// The line at 200: what the eight bytes of the single command say.
-fn single_line(single: &[u8; 8]) -> Line
-    ensures line { result ≡ read_line single.now }
-{
-    lines::read_line(single)
-}
-
 // The line at 000-200.
 // Put into its callers, so that a byte keeps under its limit of stack.
 #[inline(always)]
+#[tactic(auto, unfolding(crate::specs::Variables::line_of))]
 pub fn line_of(panel: Panel, program: &[u8], k: u8) -> Line
     requires { IsProgram program.now × (k ≤ 200) }
     ensures line { result ≡ line_of panel program.now k }
 {
     if k == 200 {
-        let single = panel.single;
-        return single_line(&single);
+        lines::read_line(&panel.single)
+    } else {
+        lines::line_at(program, k as usize)
     }
-    lines::line_at(program, k as usize)
 }
 
 // Address k is one of 000-200, and a Bad line stands there.
+#[tactic(auto, unfolding(crate::specs::Variables::is_bad_at))]
 pub fn is_bad_at(panel: Panel, program: &[u8], k: u8) -> bool
     requires { IsProgram program.now }
     ensures test { result ≡ is_bad_at panel program.now k }
 {
-    if 200 < k {
-        return false;
-    }
-    lines::is_bad(line_of(panel, program, k))
+    k <= 200 && lines::is_bad(line_of(panel, program, k))
 }
 
-// ---- what a read shows, in an area
-// Each writer below writes from place `at` on, leaves every other byte, and returns the place behind what it wrote.
-
-// A byte in the format h, two hex digits.
-fn put_hex(area: &mut [u8], at: usize, v: u8) -> usize
-    requires { at + 2 ≤ length area.old }
-    ensures wrote { Wrote at (h v) area.old result area.new }
-    ensures near { result ≡ at + 2 }
-{
-    formats::put_digits(area, at, 16, 2, v as u64)
-}
-
-// A byte in the format d, three decimal digits.
-fn put_decimal(area: &mut [u8], at: usize, v: u8) -> usize
-    requires { at + 3 ≤ length area.old }
-    ensures wrote { Wrote at (d v) area.old result area.new }
-    ensures near { result ≡ at + 3 }
-{
-    formats::put_digits(area, at, 10, 3, v as u64)
-}
-
-// The count at 213-216, in four decimal digits.
-fn put_count(area: &mut [u8], at: usize, run: Run, k: u8) -> usize
-    requires { (at + 4 ≤ length area.old) × (213 ≤ k) × (k ≤ 216) }
-    ensures wrote { Wrote at (2d (counter run (k - 212)).count) area.old result area.new }
-    ensures near { result ≡ at + 4 }
-{
-    let counters = run.counters;
-    let counter = counters[(k - 213) as usize];
-    formats::put_digits(area, at, 10, 4, counter.count as u64)
-}
-
-// What a read of address k shows.
+// What a read of address k shows is written into an area from place `at` on; every other byte stays, and the place behind it is returned.
 pub fn put_value(
     area: &mut [u8],
     at: usize,
@@ -195,17 +146,17 @@ pub fn put_value(
     ensures wrote { Wrote at (value panel run paused program.now k) area.old result area.new }
     ensures near { result ≤ at + 15 }
 {
-    match k {
-        0..=200 => texts::put_line_text(area, at, line_of(panel, program, k)),
-        201 => put_hex(area, at, status(panel.unread, run.on, paused)),
-        202 => put_hex(area, at, 0),
-        203..=206 => put_hex(area, at, output_byte(run.outputs, k)),
-        207 => put_hex(area, at, 0),
-        208 => put_decimal(area, at, 0),
-        209 => put_decimal(area, at, panel.parameter),
-        210 => put_decimal(area, at, panel.special),
-        211 => put_decimal(area, at, run.line),
-        212 => put_decimal(area, at, panel.event),
-        _ => put_count(area, at, run, k),
-    }
+    let (base, digits, v) = match k {
+        0..=200 => return texts::put_line_text(area, at, line_of(panel, program, k)),
+        201 => (16, 2, status(panel.unread, run.on, paused) as u64),
+        202 | 207 => (16, 2, 0),
+        203..=206 => (16, 2, output_byte(run.outputs, k) as u64),
+        208 => (10, 3, 0),
+        209 => (10, 3, panel.parameter as u64),
+        210 => (10, 3, panel.special as u64),
+        211 => (10, 3, run.line as u64),
+        212 => (10, 3, panel.event as u64),
+        _ => (10, 4, run.counters[(k - 213) as usize].count as u64),
+    };
+    formats::put_digits(area, at, base, digits, v)
 }

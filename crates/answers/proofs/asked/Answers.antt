@@ -1,37 +1,34 @@
 -- `answers::asked` meets its contract: by what the checks were heard to say, and for a read by the line that stands there.
 -- Assumes nothing.
-use mathlib.Core.Path.{sym, ◌∙◌}
+use Rattle.std.proofs.Common.{sym, ap, ◌∙◌, rules}
+use Rattle.std.proofs.lemmas.Result.{err_from_is_err_and}
+use Rattle.formats.specs.Checks.{passed}
 use Rattle.variables.specs.Variables.{is_bad_at}
-use Rattle.answers.proofs.Hearing.{error_heard, write_heard, read_heard, bad_heard, heard_of_lem}
+use Rattle.controller.proofs.Legible.{error_stays, read_stays, read_illegible}
+use Rattle.answers.proofs.Hearing.{stays, write_kept, heard_of_state}
 use Rattle.answers.proofs.asked.Goals as goal
 
+pub returns-in_err-q : goal.returns-in_err-q
+returns-in_err-q c =
+    let p = err_from_is_err_and c.from_residual.result c.from_residual.ensures.1 in
+    record { heard = rw (p.1, p.2) (λ k e f g. heard_of_state k c.args.program.now e f g (stays _ c.in_err-q.ensures.command (error_stays _ _))) }
+
+pub returns-in-Read : goal.returns-in-Read
+returns-in-Read c =
+    record {
+      heard =
+          λ k e f g. heard_of_state k c.args.program.now e f g
+          (stays _ (ap passed (sym c.in-Read.is) ∙ c.in_ok-q.ensures.command) (read_illegible _ _ (sym c.if-is_bad_at.ensures.test)));
+    }
+
 pub returns-in_default : goal.returns-in_default
-returns-in_default c = record { heard = λ k e f g. heard_of_lem k c.args.program.now e f g (error_heard (is_bad_at c.args.panel c.args.program.now) _ c.command-heard.ensures.command c.in_default.is) }
-
-pub returns-in_default-q : goal.returns-in_default-q
-returns-in_default-q c =
+returns-in_default c =
     record {
       heard =
-          λ k e f g. heard_of_lem k c.args.program.now e f g
-          (sym c.in-Is.is
-          ∙ write_heard (is_bad_at c.args.panel c.args.program.now) _ c.command-heard.ensures.command c.in-Is.is c.in_default-q.is);
+          λ k e f g. heard_of_state k c.args.program.now e f g
+          (stays _ (ap passed (sym c.in-Read.is) ∙ c.in_ok-q.ensures.command) (read_stays _ _ (sym c.if-is_bad_at.ensures.test)));
     }
 
-pub returns-then-is_bad_at : goal.returns-then-is_bad_at
-returns-then-is_bad_at c =
-    record {
-      heard =
-          λ k e f g. heard_of_lem k c.args.program.now e f g
-          (bad_heard (is_bad_at c.args.panel c.args.program.now) _ c.command-heard.ensures.command c.in-Is.is c.in-Read.is
-          (sym c.is_bad_at.ensures.test ∙ c.if-is_bad_at.true));
-    }
-
-pub returns : goal.returns
-returns c =
-    record {
-      heard =
-          λ k e f g. heard_of_lem k c.args.program.now e f g
-          (sym c.in-Is.is
-          ∙ read_heard (is_bad_at c.args.panel c.args.program.now) _ c.command-heard.ensures.command c.in-Is.is c.in-Read.is
-          (sym c.is_bad_at.ensures.test ∙ c.if-is_bad_at.false));
-    }
+pub returns-in_default-2 : goal.returns-in_default-2
+returns-in_default-2 c =
+    record { heard = λ k e f g. heard_of_state k c.args.program.now e f g (stays (is_bad_at c.args.panel c.args.program.now) c.in_ok-q.ensures.command (search (rules, write_kept))) }
