@@ -13,7 +13,7 @@ import re
 import sys
 
 ROOT = os.path.dirname(os.path.dirname(os.path.abspath(__file__)))
-KIT = ['check', 'bytes', 'io']
+KIT = ['arrayvec', 'check', 'bytes', 'io']
 
 
 def listed():

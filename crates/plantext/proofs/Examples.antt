@@ -1,16 +1,16 @@
 -- Texts that are read by computing, and what comes of each.
 -- Assumes nothing.
 use mathlib.Core.Path.{◌≡◌, refl}
-use Prim.Native.Nat.{ℕ, zero, suc, ◌*◌, ◌-◌}
+use Prim.Native.Nat.{ℕ, zero, suc, ◌/◌, ◌-◌}
 use mathlib.Core.List.{List, [], ◌∷◌, ◌++◌, map}
-use lib.ListN.{take, drop}
-use Rattle.std.specs.Prelude.{if◌then◌else◌}
+use lib.ListN.{length, drop}
+use Rattle.std.specs.Prelude.{Option, None, Some, if◌then◌else◌}
 use Rattle.formats.specs.Checks.{same, text}
+use Rattle.plantext.specs.declared.Fault.{Fault}
+use Rattle.plantext.specs.declared.Fault.TheVariants.{NoWord, NoSettling, NoReadingWord, NoReading, SettlingMissing, ReadingWordMissing, ReadingMissing, Behind}
 use Rattle.plantext.specs.declared.Reader.{Reader}
 use Rattle.plantext.specs.Text.{hex_value}
-use Rattle.plantext.specs.Reading.{base, digits_after, value_after, character, wrong, missing, moves_after, stored_after, field_after, field_end, closed}
-use Rattle.plantext.specs.Reading.{hash, letter, line_after, line_end, resolved, byte_after, step, fed, ended}
-use Rattle.plantext.specs.Reading.{reader_of}
+use Rattle.plantext.specs.Reading.{grown, character, put, field_end, closed, hash, letter, line_end, resolved, byte_after, step, fed, ended, reader_of}
 
 -- The digits of either case, and their neighbours among the characters.
 pub digits_valued : map hex_value (text "0123456789ABCDEFabcdef/:@G`g")
@@ -33,13 +33,24 @@ cr = 13 ∷ []
 abbrev pub tab : List ℕ
 tab = 9 ∷ []
 
--- what is seen of the reader at the end: the fault and its line; or 0, the number of moves, and the numbers of the last
+-- the faults, in the order of the fields of a line
+abbrev pub place_among : Fault → ℕ
+place_among NoWord = 1
+place_among NoSettling = 2
+place_among NoReadingWord = 3
+place_among NoReading = 4
+place_among SettlingMissing = 5
+place_among ReadingWordMissing = 6
+place_among ReadingMissing = 7
+place_among Behind = 8
+
+-- what is seen of the reader at the end: the fault, by its place among the faults, and its line; or 0, the number of moves, and the numbers of the last
 abbrev pub seen : Reader → List ℕ
 seen r = seen_as r.fault
   where
-    seen_as : ℕ → List ℕ
-    seen_as zero = 0 ∷ r.count ∷ drop (4 * r.count - 4) (take (4 * r.count) r.moves)
-    seen_as (suc e) = suc e ∷ r.line ∷ []
+    seen_as : Option Fault → List ℕ
+    seen_as None = 0 ∷ length r.numbers.items / 4 ∷ drop (length r.numbers.items - 4) r.numbers.items
+    seen_as (Some e) = place_among e ∷ r.line ∷ []
 
 -- n lines of one kind
 unfoldable pub times : ℕ → List ℕ → List ℕ
@@ -89,6 +100,5 @@ failing n (t gives s ∷ more) = if same (seen (reader_of t)) s then failing (su
 
 -- None does.
 pub examples_pass : failing 1 examples ≡ []
-unfolding text times hex_value base digits_after value_after character wrong missing moves_after stored_after field_after field_end closed hash letter line_after
-    line_end resolved byte_after step fed ended reader_of
+unfolding text times hex_value grown character put field_end closed hash letter line_end resolved byte_after step fed ended reader_of
 examples_pass = refl

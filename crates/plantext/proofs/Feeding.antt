@@ -9,15 +9,16 @@ use lib.Seq.{drop-cons}
 use Rattle.plantext.specs.declared.Reader.{Reader}
 use Rattle.plantext.specs.Reading.{step, fed}
 
--- one byte more, in a loop over them
-pub fed_on : (bs : List ℕ) (i : ℕ) (r q : Reader) → i < length bs → q ≡ step (get_or bs i 0) r → fed q (drop (i + 1) bs) ≡ fed r (drop i bs)
+-- one byte more, in a loop over them, and none that is left
+pub fed_more : (bs : List ℕ) (i : ℕ) (r : Reader) → i < length bs → fed (step (get_or bs i 0) r) (drop (i + 1) bs) ≡ fed r (drop i bs)
 unfolding fed
-fed_on bs i r q lt e = rw (drop-cons bs i 0 lt, add-one i, e)
+fed_more bs i r lt = rw (drop-cons bs i 0 lt, add-one i)
 
--- no byte is left
-pub fed_all : (bs : List ℕ) (i : ℕ) (r q : Reader) → fed r (drop i bs) ≡ fed q bs → length bs ≤ i → r ≡ fed q bs
+pub fed_all : (bs : List ℕ) (i : ℕ) (r : Reader) → length bs ≤ i → fed r (drop i bs) ≡ r
 unfolding fed
-fed_all bs i r q e le = rw (drop_of_length-le bs le) at e
+fed_all bs i r le = rw (drop_of_length-le bs le)
+
+pub ruleset by_bytes = (fed_more, fed_all)
 
 -- Bytes that are fed in pieces are read as the whole is.
 pub fed_pieces : (r : Reader) (xs bs : List ℕ) → fed r (xs ++ bs) ≡ fed (fed r xs) bs

@@ -1,89 +1,89 @@
--- Laws of the characters of a field: how far it is behind them, and the number that they are.
+-- Laws of the characters of a field: what they are behind the last of them.
 -- Assumes nothing.
 use mathlib.Core.Path.{◌≡◌, refl, sym, ap, ◌∙◌}
-use Prim.Native.Nat.{ℕ, ◌+◌, ◌*◌, ◌≤◌, ◌<◌, min}
+use Prim.Native.Nat.{ℕ, ◌+◌, ◌*◌, ◌≤◌, ◌<◌}
 use native.Mathlib.Omega.{arith}
-use mathlib.Core.Bool.{Bool, true, false, true≢false}
+use mathlib.Core.Bool.{Bool, true, false, not, true≢false, false≢true}
 use mathlib.Core.List.{List, [], ◌∷◌, map}
 use lib.ListN.{length}
 use lib.Dec.{leb, ltb, eqb}
-use borrow.Author.Tests.{eqb-true, ltb-true, ltb-false, lt-ltb, le-ltb, lt-leb, le-leb}
+use borrow.Author.Tests.{eqb-true, ltb-true, ltb-false, lt-ltb, le-ltb, lt-leb, le-leb, ne_eqb}
+use Rattle.std.specs.Prelude.{if◌then◌else◌}
 use Rattle.formats.specs.Checks.{all}
 use Rattle.formats.specs.Digits.{number_after, number}
 use Rattle.formats.proofs.Checks.{if_case, both_true}
+use Rattle.plantext.specs.declared.Number.{Number}
+use Rattle.plantext.specs.declared.Number.TheVariants.{Few, Whole, Never}
 use Rattle.plantext.specs.Text.{hex_value, is_digit_to, Word, Time}
 use Rattle.plantext.specs.Faults.{is_plain}
-use Rattle.plantext.specs.Kept.{most, capped}
-use Rattle.plantext.specs.Reading.{base, digits_after, value_after}
+use Rattle.plantext.specs.Kept.{capped}
+use Rattle.plantext.specs.Reading.{value_after, with_digit, grown}
 
 -- ---- the characters one after the other
 
-unfoldable pub digits_behind : ℕ → ℕ → List ℕ → ℕ
-digits_behind k d [] = d
-digits_behind k d (c ∷ f) = digits_behind k (digits_after k d (hex_value c)) f
+-- those of a field of digits to the base b, behind what stands before them
+unfoldable pub number_behind : ℕ → Number → List ℕ → Number
+number_behind b n [] = n
+number_behind b n (c ∷ f) = number_behind b (grown b (hex_value c) n) f
 
-unfoldable pub value_behind : ℕ → ℕ → List ℕ → ℕ
-value_behind k v [] = v
-value_behind k v (c ∷ f) = value_behind k (value_after k v (hex_value c)) f
+-- it is right as it stands
+abbrev pub is_whole : Number → Bool
+is_whole (Few n v) = false
+is_whole (Whole v) = true
+is_whole Never = false
+
+-- it has begun
+abbrev pub is_begun : Number → Bool
+is_begun (Few n v) = not (eqb n 0)
+is_begun (Whole v) = true
+is_begun Never = true
 
 -- ---- one character
 
-module _ (k d x : ℕ) where
-  -- it is no digit
-  after_other : leb (base k) x ≡ true → digits_after k d x ≡ 9
-  unfolding digits_after
-  after_other e = rw e
+-- it is no digit
+after_other : (b x : ℕ) (n : Number) → leb b x ≡ true → grown b x n ≡ Never
+unfolding grown
+after_other b x n e = rw e
 
-  -- the field was wrong before it
-  after_wrong : 8 < d → digits_after k d x ≡ 9
-  unfolding digits_after
-  after_wrong lt = rw (lt-ltb 8 d lt) (if_case (λ n. n ≡ 9) (leb (base k) x) (λ _. refl) (λ _. refl))
+-- it is one
+after_digit : (b x : ℕ) (n : Number) → leb b x ≡ false → grown b x n ≡ with_digit b x n
+unfolding grown
+after_digit b x n e = rw e
 
-  -- a digit of a time
-  after_time : base k ≡ 10 → leb (base k) x ≡ false → d ≤ 8 → digits_after k d x ≡ 8
-  unfolding digits_after
-  after_time is e le = rw (e, le-ltb 8 d le, is)
+digit_begins : (b x : ℕ) (n : Number) → is_begun (with_digit b x n) ≡ true
+digit_begins b x (Few n v) =
+    if_case (λ m. is_begun m ≡ true) (eqb b 16)
+    (λ _. if_case (λ m. is_begun m ≡ true) (ltb n 7) (λ _. rw (ne_eqb (n + 1) 0 (λ z. omega arith))) (λ _. refl))
+    (λ _. refl)
+digit_begins b x (Whole v) = if_case (λ m. is_begun m ≡ true) (eqb b 10) (λ _. refl) (λ _. refl)
+digit_begins b x Never = refl
 
-  -- a digit of a word
-  after_word : base k ≡ 16 → leb (base k) x ≡ false → d ≤ 7 → digits_after k d x ≡ d + 1
-  unfolding digits_after
-  after_word is e le = rw (e, le-ltb 8 d (omega arith), is, le-ltb 7 d le)
-
-  -- and one too many
-  after_eighth : base k ≡ 16 → 7 < d → digits_after k d x ≡ 9
-  unfolding digits_after
-  after_eighth is lt =
-      if_case (λ n. n ≡ 9) (leb (base k) x) (λ _. refl) λ _.
-      if_case (λ n. n ≡ 9) (ltb 8 d) (λ _. refl) λ _.
-      rw (is, lt-ltb 7 d lt)
-
-  -- the field has begun
-  after_some : 0 < digits_after k d x
-  unfolding digits_after
-  after_some =
-      if_case (λ n. 0 < n) (leb (base k) x) (λ _. omega arith) λ _.
-      if_case (λ n. 0 < n) (ltb 8 d) (λ _. omega arith) λ _.
-      if_case (λ n. 0 < n) (eqb (base k) 10) (λ _. omega arith) λ _.
-      if_case (λ n. 0 < n) (ltb 7 d) (λ _. omega arith) (λ _. omega arith)
+after_some : (b x : ℕ) (n : Number) → is_begun (grown b x n) ≡ true
+unfolding grown
+after_some b x n = if_case (λ m. is_begun m ≡ true) (leb b x) (λ _. refl) (λ _. digit_begins b x n)
 
 -- ---- all of them
 
--- what is wrong stays wrong
-nine_stays : (k : ℕ) (f : List ℕ) → digits_behind k 9 f ≡ 9
-unfolding digits_behind
-nine_stays k [] = refl
-nine_stays k (c ∷ f) = ap (λ d. digits_behind k d f) (after_wrong k 9 (hex_value c) (omega arith)) ∙ nine_stays k f
+-- what is no number stays none
+never_stays : (b : ℕ) (f : List ℕ) → number_behind b Never f ≡ Never
+unfolding number_behind grown
+never_stays b [] = refl
+never_stays b (c ∷ f) = if_case (λ n. number_behind b n f ≡ Never) (leb b (hex_value c)) (λ _. never_stays b f) (λ _. never_stays b f)
 
-some_stay : (k d : ℕ) (f : List ℕ) → 0 < d → 0 < digits_behind k d f
-unfolding digits_behind
-some_stay k d [] lt = lt
-some_stay k d (c ∷ f) lt = some_stay k (digits_after k d (hex_value c)) f (after_some k d (hex_value c))
+some_stay : (b : ℕ) (n : Number) (f : List ℕ) → is_begun n ≡ true → is_begun (number_behind b n f) ≡ true
+unfolding number_behind
+some_stay b n [] e = e
+some_stay b n (c ∷ f) e = some_stay b (grown b (hex_value c) n) f (after_some b (hex_value c) n)
 
 -- A field has begun behind its first character.
-pub begun : (k : ℕ) (f : List ℕ) → 0 < length f → 0 < digits_behind k 0 f
-unfolding digits_behind
-begun k [] lt = absurd (omega arith)
-begun k (c ∷ f) lt = some_stay k (digits_after k 0 (hex_value c)) f (after_some k 0 (hex_value c))
+pub begun : (b : ℕ) (n : Number) (f : List ℕ) → 0 < length f → is_begun (number_behind b n f) ≡ true
+unfolding number_behind
+begun b n [] lt = absurd (omega arith)
+begun b n (c ∷ f) lt = some_stay b (grown b (hex_value c) n) f (after_some b (hex_value c) n)
+
+-- a character that is no digit leaves no number
+not_whole : (b x : ℕ) (n : Number) (f : List ℕ) → grown b x n ≡ Never → is_whole (number_behind b (grown b x n) f) ≡ true → ⊥
+not_whole b x n f never e = false≢true (sym (ap (λ m. is_whole (number_behind b m f)) never ∙ ap is_whole (never_stays b f)) ∙ e)
 
 -- a test from the other side
 digit_below : (b x : ℕ) → ltb x b ≡ true → leb b x ≡ false
@@ -99,108 +99,120 @@ other_above b x e = lt-ltb x b (leb_below b x e)
         go true h = ltb-true x b h
         go false h = absurd (true≢false (sym (le-leb b x (ltb-false x b h)) ∙ e))
 
-module _ (k : ℕ) (is : base k ≡ 16) where
-  -- eight hex digits make a field right
-  word_digits : (d : ℕ) (f : List ℕ) → all (is_digit_to 16) f ≡ true → d + length f ≤ 8 → digits_behind k d f ≡ d + length f
-  unfolding digits_behind
-  word_digits d [] e le = omega arith
-  word_digits d (c ∷ f) e le =
-      let p = both_true (is_digit_to 16 c) (all (is_digit_to 16) f) e in
-      let x = hex_value c in
-      let below : leb (base k) x ≡ false = rw is (digit_below 16 x p.0) in
-      ap (λ n. digits_behind k n f) (after_word k d x is below (omega arith)) ∙ word_digits (d + 1) f p.1 (omega arith) ∙ omega arith
+-- ---- words
 
-  -- and only these do
-  word_back : (d : ℕ) (f : List ℕ) → d ≤ 8 → digits_behind k d f ≡ 8 → (all (is_digit_to 16) f ≡ true) × (d + length f ≡ 8)
-  unfolding digits_behind
-  word_back d [] le e = (refl, omega arith)
-  word_back d (c ∷ f) le e = go (leb (base k) (hex_value c)) refl (ltb 7 d) refl (word_back (d + 1) f)
-    where
-      x : ℕ
-      x = hex_value c
+-- d digits of a word, of the value v, where there are at most eight
+abbrev so_far : ℕ → ℕ → Number
+so_far d v = if ltb d 8 then Few d v else Whole v
 
-      stays_wrong : digits_after k d x ≡ 9 → ⊥
-      stays_wrong nine = let z = sym e ∙ ap (λ n. digits_behind k n f) nine ∙ nine_stays k f in omega (arith, z)
+one_more : (d v x : ℕ) → leb 16 x ≡ false → d < 8 → grown 16 x (so_far d v) ≡ so_far (d + 1) (value_after 16 v x)
+one_more d v x e lt = rw (lt-ltb d 8 lt) (after_digit 16 x (Few d v) e ∙ go (ltb d 7) refl)
+  where
+    go : (t : Bool) → ltb d 7 ≡ t → (if t then Few (d + 1) (value_after 16 v x) else Whole (value_after 16 v x)) ≡ so_far (d + 1) (value_after 16 v x)
+    go true h = let few : d < 7 = ltb-true d 7 h in rw (lt-ltb (d + 1) 8 (omega arith))
+    go false h = let most : 7 ≤ d = ltb-false d 7 h in rw (le-ltb (d + 1) 8 (omega arith))
 
-      go : (t : Bool) → leb (base k) x ≡ t → (u : Bool) → ltb 7 d ≡ u
-          → (d + 1 ≤ 8 → digits_behind k (d + 1) f ≡ 8 → (all (is_digit_to 16) f ≡ true) × (d + 1 + length f ≡ 8))
-          → (all (is_digit_to 16) (c ∷ f) ≡ true) × (d + length (c ∷ f) ≡ 8)
-      go true h u g more = absurd (stays_wrong (after_other k d x h))
-      go false h true g more = absurd (stays_wrong (after_eighth k d x is (ltb-true 7 d g)))
-      go false h false g more =
-          let few : d ≤ 7 = ltb-false 7 d g in
-          let p = more (omega arith) (sym (ap (λ n. digits_behind k n f) (after_word k d x is h few)) ∙ e) in
-          (rw (other_above 16 x (rw is at h)) p.0, omega (arith, p.1))
+-- the largest number stands for every larger one, with more digits behind it too
+capped_more : (v x : ℕ) → value_after 16 (capped v) x ≡ capped (v * 16 + x)
+capped_more v x = omega arith
 
-module _ (k : ℕ) (is : base k ≡ 10) where
-  eight_stays : (f : List ℕ) → all (is_digit_to 10) f ≡ true → digits_behind k 8 f ≡ 8
-  unfolding digits_behind
-  eight_stays [] e = refl
-  eight_stays (c ∷ f) e =
-      let p = both_true (is_digit_to 10 c) (all (is_digit_to 10) f) e in
-      let below : leb (base k) (hex_value c) ≡ false = rw is (digit_below 10 (hex_value c) p.0) in
-      ap (λ n. digits_behind k n f) (after_time k 8 (hex_value c) is below (omega arith)) ∙ eight_stays f p.1
+-- eight hex digits make a word right
+word_digits : (d v : ℕ) (f : List ℕ) → all (is_digit_to 16) f ≡ true → d + length f ≤ 8
+    → number_behind 16 (so_far d (capped v)) f ≡ so_far (d + length f) (capped (number_after 16 v (map hex_value f)))
+unfolding number_behind number_after
+word_digits d v [] e le = let same : d + 0 ≡ d = omega arith in rw same
+word_digits d v (c ∷ f) e le =
+    let p = both_true (is_digit_to 16 c) (all (is_digit_to 16) f) e in
+    let x = hex_value c in
+    let long : d + 1 + length f ≡ d + length (c ∷ f) = omega arith in
+    ap (λ n. number_behind 16 n f) (one_more d (capped v) x (digit_below 16 x p.0) (omega arith) ∙ ap (so_far (d + 1)) (capped_more v x))
+    ∙ word_digits (d + 1) (v * 16 + x) f p.1 (omega arith)
+    ∙ ap (λ n. so_far n (capped (number_after 16 (v * 16 + x) (map hex_value f)))) long
 
-  -- one decimal digit or more make a field right
-  time_digits : (f : List ℕ) → 0 < length f → all (is_digit_to 10) f ≡ true → digits_behind k 0 f ≡ 8
-  unfolding digits_behind
-  time_digits [] lt e = absurd (omega arith)
-  time_digits (c ∷ f) lt e =
-      let p = both_true (is_digit_to 10 c) (all (is_digit_to 10) f) e in
-      let below : leb (base k) (hex_value c) ≡ false = rw is (digit_below 10 (hex_value c) p.0) in
-      ap (λ n. digits_behind k n f) (after_time k 0 (hex_value c) is below (omega arith)) ∙ eight_stays f p.1
+-- and only these do
+word_back : (d v : ℕ) (f : List ℕ) → d ≤ 8 → is_whole (number_behind 16 (so_far d v) f) ≡ true → (all (is_digit_to 16) f ≡ true) × (d + length f ≡ 8)
+unfolding number_behind
+word_back d v [] le e = (refl, go (ltb d 8) refl e)
+  where
+    go : (t : Bool) → ltb d 8 ≡ t → is_whole (if t then Few d v else Whole v) ≡ true → d + 0 ≡ 8
+    go true h w = absurd (false≢true w)
+    go false h w = let ge : 8 ≤ d = ltb-false d 8 h in omega arith
+word_back d v (c ∷ f) le e = go (leb 16 (hex_value c)) refl (ltb d 8) refl (word_back (d + 1) (value_after 16 v (hex_value c)) f)
+  where
+    x : ℕ
+    x = hex_value c
 
-  -- and only these do
-  time_back : (d : ℕ) (f : List ℕ) → d ≤ 8 → digits_behind k d f ≡ 8 → all (is_digit_to 10) f ≡ true
-  unfolding digits_behind
-  time_back d [] le e = refl
-  time_back d (c ∷ f) le e = go (leb (base k) (hex_value c)) refl (time_back 8 f (omega arith))
-    where
-      x : ℕ
-      x = hex_value c
+    -- one too many
+    ninth : ltb d 8 ≡ false → leb 16 x ≡ false → grown 16 x (so_far d v) ≡ Never
+    ninth g h = rw g (after_digit 16 x (Whole v) h)
 
-      go : (t : Bool) → leb (base k) x ≡ t → (digits_behind k 8 f ≡ 8 → all (is_digit_to 10) f ≡ true) → all (is_digit_to 10) (c ∷ f) ≡ true
-      go true h more =
-          let z = sym e ∙ ap (λ n. digits_behind k n f) (after_other k d x h) ∙ nine_stays k f in
-          absurd (omega (arith, z))
-      go false h more =
-          rw (other_above 10 x (rw is at h)) (more (sym (ap (λ n. digits_behind k n f) (after_time k d x is h le)) ∙ e))
+    go : (t : Bool) → leb 16 x ≡ t → (u : Bool) → ltb d 8 ≡ u
+        → (d + 1 ≤ 8 → is_whole (number_behind 16 (so_far (d + 1) (value_after 16 v x)) f) ≡ true → (all (is_digit_to 16) f ≡ true) × (d + 1 + length f ≡ 8))
+        → (all (is_digit_to 16) (c ∷ f) ≡ true) × (d + length (c ∷ f) ≡ 8)
+    go true h u g more = absurd (not_whole 16 x (so_far d v) f (after_other 16 x (so_far d v) h) e)
+    go false h false g more = absurd (not_whole 16 x (so_far d v) f (ninth g h) e)
+    go false h true g more =
+        let few : d < 8 = ltb-true d 8 g in
+        let p = more (omega arith) (sym (ap (λ n. is_whole (number_behind 16 n f)) (one_more d v x h few)) ∙ e) in
+        (rw (other_above 16 x h) p.0, omega (arith, p.1))
 
--- ---- the number
+-- ---- times
 
--- The largest stands for every larger one, with more digits behind it too.
-value_capped : (k v : ℕ) (f : List ℕ) → ((v x : ℕ) → min (min v most * base k + x) most ≡ min (v * base k + x) most)
-    → value_behind k (capped v) f ≡ capped (number_after (base k) v (map hex_value f))
-unfolding value_behind value_after number_after
-value_capped k v [] on = refl
-value_capped k v (c ∷ f) on =
-    ap (λ n. value_behind k n f) (on v (hex_value c)) ∙ value_capped k (v * base k + hex_value c) f on
+capped_later : (v x : ℕ) → value_after 10 (capped v) x ≡ capped (v * 10 + x)
+capped_later v x = omega arith
 
-pub word_value : (k : ℕ) → base k ≡ 16 → (f : List ℕ) → value_behind k 0 f ≡ capped (number 16 (map hex_value f))
-word_value k is f = rw is at (value_capped k 0 f (rw is (λ v x. omega arith)))
+more_time : (v : ℕ) (f : List ℕ) → all (is_digit_to 10) f ≡ true
+    → number_behind 10 (Whole (capped v)) f ≡ Whole (capped (number_after 10 v (map hex_value f)))
+unfolding number_behind number_after
+more_time v [] e = refl
+more_time v (c ∷ f) e =
+    let p = both_true (is_digit_to 10 c) (all (is_digit_to 10) f) e in
+    let x = hex_value c in
+    ap (λ n. number_behind 10 n f) (after_digit 10 x (Whole (capped v)) (digit_below 10 x p.0) ∙ ap Whole (capped_later v x))
+    ∙ more_time (v * 10 + x) f p.1
 
-pub time_value : (k : ℕ) → base k ≡ 10 → (f : List ℕ) → value_behind k 0 f ≡ capped (number 10 (map hex_value f))
-time_value k is f = rw is at (value_capped k 0 f (rw is (λ v x. omega arith)))
+-- one decimal digit or more make a time right
+time_digits : (f : List ℕ) → 0 < length f → all (is_digit_to 10) f ≡ true → number_behind 10 (Few 0 0) f ≡ Whole (capped (number 10 (map hex_value f)))
+unfolding number_behind number_after
+time_digits [] lt e = absurd (omega arith)
+time_digits (c ∷ f) lt e =
+    let p = both_true (is_digit_to 10 c) (all (is_digit_to 10) f) e in
+    let x = hex_value c in
+    ap (λ n. number_behind 10 n f) (after_digit 10 x (Few 0 0) (digit_below 10 x p.0) ∙ ap Whole (capped_later 0 x))
+    ∙ more_time (0 * 10 + x) f p.1
+
+-- and only these do
+time_back : (n : Number) (f : List ℕ) → is_whole (number_behind 10 n f) ≡ true → all (is_digit_to 10) f ≡ true
+unfolding number_behind
+time_back n [] e = refl
+time_back n (c ∷ f) e = go (leb 10 (hex_value c)) refl (time_back (grown 10 (hex_value c) n) f e)
+  where
+    x : ℕ
+    x = hex_value c
+
+    go : (t : Bool) → leb 10 x ≡ t → all (is_digit_to 10) f ≡ true → all (is_digit_to 10) (c ∷ f) ≡ true
+    go true h more = absurd (not_whole 10 x n f (after_other 10 x n h) e)
+    go false h more = rw (other_above 10 x h) more
 
 -- ---- fields that are right, and others
 
-pub word_right : (k : ℕ) → base k ≡ 16 → (f : List ℕ) (w : ℕ) → Word f w → (digits_behind k 0 f ≡ 8) × (value_behind k 0 f ≡ capped w)
-word_right k is f w is_IsWord =
-    let all-eight = word_digits k is 0 f is_IsWord.digits (omega (arith, is_IsWord.eight)) in
-    (omega (arith, all-eight, is_IsWord.eight), word_value k is f ∙ ap capped (sym is_IsWord.value))
+pub word_right : (f : List ℕ) (w : ℕ) → Word f w → number_behind 16 (Few 0 0) f ≡ Whole (capped w)
+word_right f w is =
+    let long : 0 + length f ≡ 8 = omega (arith, is.eight) in
+    word_digits 0 0 f is.digits (omega (arith, is.eight))
+    ∙ ap (λ d. so_far d (capped (number 16 (map hex_value f)))) long
+    ∙ ap (λ n. Whole (capped n)) (sym is.value)
 
-pub time_right : (k : ℕ) → base k ≡ 10 → (f : List ℕ) (t : ℕ) → Time f t → (digits_behind k 0 f ≡ 8) × (value_behind k 0 f ≡ capped t)
-time_right k is f t is-time =
-    (time_digits k is f is-time.some is-time.digits, time_value k is f ∙ ap capped (sym is-time.value))
+pub time_right : (f : List ℕ) (t : ℕ) → Time f t → number_behind 10 (Few 0 0) f ≡ Whole (capped t)
+time_right f t is = time_digits f is.some is.digits ∙ ap (λ n. Whole (capped n)) (sym is.value)
 
-pub word_wrong : (k : ℕ) → base k ≡ 16 → (f : List ℕ) → ((w : ℕ) → Word f w → ⊥) → digits_behind k 0 f ≡ 8 → ⊥
-word_wrong k is f never e =
-    let p = word_back k is 0 f (omega arith) e in
+pub word_wrong : (f : List ℕ) → ((w : ℕ) → Word f w → ⊥) → is_whole (number_behind 16 (Few 0 0) f) ≡ true → ⊥
+word_wrong f never e =
+    let p = word_back 0 0 f (omega arith) e in
     never (number 16 (map hex_value f)) (record { eight = omega (arith, p.1); digits = p.0; value = refl })
 
-pub time_wrong : (k : ℕ) → base k ≡ 10 → (f : List ℕ) → 0 < length f → ((t : ℕ) → Time f t → ⊥) → digits_behind k 0 f ≡ 8 → ⊥
-time_wrong k is f some never e =
-    never (number 10 (map hex_value f)) (record { some = some; digits = time_back k is 0 f (omega arith) e; value = refl })
+pub time_wrong : (f : List ℕ) → 0 < length f → ((t : ℕ) → Time f t → ⊥) → is_whole (number_behind 10 (Few 0 0) f) ≡ true → ⊥
+time_wrong f some never e = never (number 10 (map hex_value f)) (record { some = some; digits = time_back (Few 0 0) f e; value = refl })
 
 -- ---- a digit is no blank and no `#`
 

@@ -11,6 +11,8 @@ use borrow.Author.Tests.{eqb-true, eq-eqb}
 use Rattle.formats.specs.Checks.{all}
 use Rattle.formats.specs.Digits.{number}
 use Rattle.formats.proofs.Checks.{both_true}
+use Rattle.plantext.specs.declared.Fault.{Fault}
+use Rattle.plantext.specs.declared.Fault.TheVariants.{NoWord, NoSettling, NoReadingWord, NoReading, SettlingMissing, ReadingWordMissing, ReadingMissing, Behind}
 use Rattle.plantext.specs.Text.{is_blank, is_hash, hex_value, is_digit_to, Word, Time, Blanks, Between, Comment, none, remark, OnLine, nothing, move, NoLF}
 use Rattle.plantext.specs.Text.{line_of, Says, last, line}
 use Rattle.plantext.specs.Faults.{is_plain, is_over, Field, Right, word, settling, reading_word, reading}
@@ -19,7 +21,7 @@ use Rattle.plantext.specs.Faults.{settling_missing, reading_word_missing, readin
 
 pub data Judged (l : List ℕ) : Type 0 where
   right : (ns : List ℕ) → OnLine l ns → Judged l
-  wrong : (e : ℕ) → WrongLine l e → Judged l
+  wrong : (e : Fault) → WrongLine l e → Judged l
 
 -- ---- the parts of a line
 
@@ -124,33 +126,33 @@ module _ (b₀ w : List ℕ) (x : ℕ) (are₀ : Blanks b₀) (is₀ : Word w x)
             let p₄ = reading (b₀ ++ w ++ b₁ ++ s ++ b₂ ++ v) b₃ r u p₃ are₃ is₃ in
             next_part a t over
             (λ b c are rest. right (x ∷ y ∷ z ∷ u ∷ []) (move b₀ w b₁ s b₂ v b₃ r b c x y z u are₀ is₀ are₁ is₁ are₂ is₂ are₃ is₃ are rest))
-            (λ b f rest are is. wrong 8 (behind a b f rest p₄ are is))
+            (λ b f rest are is. wrong Behind (behind a b f rest p₄ are is))
 
       behind_back : (t : List ℕ) → is_over t ≡ true → Judged (b₀ ++ w ++ b₁ ++ s ++ b₂ ++ v ++ t)
       behind_back t over =
           let a = b₀ ++ w ++ b₁ ++ s ++ b₂ ++ v in
           next_part a t over
-          (λ b c are rest. wrong 7 (reading_missing a b c p₃ are rest))
+          (λ b c are rest. wrong ReadingMissing (reading_missing a b c p₃ are rest))
           (λ b f rest are is. time_case f is.some
           (λ n is-time. behind_reading b f n are is-time rest is.over)
-          (λ never. wrong 4 (no_reading a b f rest p₃ are is never)))
+          (λ never. wrong NoReading (no_reading a b f rest p₃ are is never)))
 
     behind_settling : (t : List ℕ) → is_over t ≡ true → Judged (b₀ ++ w ++ b₁ ++ s ++ t)
     behind_settling t over =
         let a = b₀ ++ w ++ b₁ ++ s in
         next_part a t over
-        (λ b c are rest. wrong 6 (reading_word_missing a b c p₂ are rest))
+        (λ b c are rest. wrong ReadingWordMissing (reading_word_missing a b c p₂ are rest))
         (λ b f rest are is. word_case f
         (λ n is_IsWord. behind_back b f n are is_IsWord rest is.over)
-        (λ never. wrong 3 (no_reading_word a b f rest p₂ are is never)))
+        (λ never. wrong NoReadingWord (no_reading_word a b f rest p₂ are is never)))
 
   behind_word : (t : List ℕ) → is_over t ≡ true → Judged (b₀ ++ w ++ t)
   behind_word t over =
       next_part (b₀ ++ w) t over
-      (λ b c are rest. wrong 5 (settling_missing (b₀ ++ w) b c p₁ are rest))
+      (λ b c are rest. wrong SettlingMissing (settling_missing (b₀ ++ w) b c p₁ are rest))
       (λ b f rest are is. time_case f is.some
       (λ n is-time. behind_settling b f n are is-time rest is.over)
-      (λ never. wrong 2 (no_settling (b₀ ++ w) b f rest p₁ are is never)))
+      (λ never. wrong NoSettling (no_settling (b₀ ++ w) b f rest p₁ are is never)))
 
 -- A line is right or wrong.
 pub judged : (l : List ℕ) → Judged l
@@ -160,7 +162,7 @@ judged l = go (parts l)
     go (closing b c are rest e) = subst Judged e (right [] (nothing b c are rest))
     go (going b f rest are is e) =
         subst Judged (append_assoc b f rest ∙ e)
-        (word_case f (λ n is_IsWord. behind_word b f n are is_IsWord rest is.over) (λ never. wrong 1 (no_word b f rest are is never)))
+        (word_case f (λ n is_IsWord. behind_word b f n are is_IsWord rest is.over) (λ never. wrong NoWord (no_word b f rest are is never)))
 
 -- ---- texts
 
@@ -183,7 +185,7 @@ lines_of (c ∷ t) = go (eqb c 10) refl (lines_of t)
 
 pub data JudgedText (t : List ℕ) : Type 0 where
   says : (ns : List ℕ) → Says t ns → JudgedText t
-  fails : (n e : ℕ) → Wrong t n e → JudgedText t
+  fails : (n : ℕ) (e : Fault) → Wrong t n e → JudgedText t
 
 by_lines : {t : List ℕ} → Lines t → JudgedText t
 by_lines (one l are) = go (judged l)

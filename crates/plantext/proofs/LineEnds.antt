@@ -4,14 +4,17 @@ use mathlib.Core.Path.{◌≡◌, refl, sym, ap, ◌∙◌}
 use Prim.Native.Nat.{ℕ}
 use mathlib.Core.Bool.{Bool, true, false, not, false≢true}
 use mathlib.Core.List.{List, [], ◌∷◌, ◌++◌}
-use lib.Dec.{ltb, eqb}
+use lib.Dec.{eqb}
 use borrow.Author.Tests.{eqb-true}
-use Rattle.std.specs.Prelude.{if◌then◌else◌}
+use Rattle.std.specs.Prelude.{if◌then◌else◌, is_some}
 use Rattle.formats.specs.Checks.{all}
 use Rattle.formats.proofs.Checks.{if_case, both_true}
+use Rattle.plantext.specs.declared.Number.TheVariants.{Few, Whole, Never}
+use Rattle.plantext.specs.declared.Place.{Place}
+use Rattle.plantext.specs.declared.Place.TheVariants.{In, Past, Remark}
 use Rattle.plantext.specs.declared.Reader.{Reader}
 use Rattle.plantext.specs.Text.{is_blank, is_hash, NoLF, line_of}
-use Rattle.plantext.specs.Reading.{with_cr, character, field_end, closed, hash, letter, line_end, resolved}
+use Rattle.plantext.specs.Reading.{with_cr, character_at, character, field_end_at, field_end, closed, hash, letter, line_end, resolved}
 use Rattle.plantext.specs.Reading.{byte_after, step, fed}
 use Rattle.plantext.proofs.Walking.{letters}
 
@@ -22,30 +25,40 @@ Waits b q = q.cr ≡ b
 
 ends_cr : (r : Reader) → (field_end r).cr ≡ r.cr
 unfolding field_end
-ends_cr r = if_case (Waits r.cr) (eqb r.digits 0) (λ _. refl) λ _. if_case (Waits r.cr) (eqb r.digits 8) (λ _. refl) (λ _. refl)
+ends_cr r = go r.place
+  where
+    go : (p : Place) → (field_end_at r p).cr ≡ r.cr
+    go (In k (Few n v)) = if_case (Waits r.cr) (eqb n 0) (λ _. refl) (λ _. refl)
+    go (In k (Whole v)) = refl
+    go (In k Never) = refl
+    go Past = refl
+    go Remark = refl
 
 closed_cr : (r : Reader) → (closed r).cr ≡ r.cr
 unfolding closed
 closed_cr r =
-    if_case (Waits r.cr) (eqb r.fault 0)
-    (λ _. if_case (Waits r.cr) (eqb (field_end r).fault 0) (λ _. ends_cr r) (λ _. ends_cr r))
-    (λ _. refl)
+    if_case (Waits r.cr) (is_some r.fault) (λ _. refl)
+    (λ _. if_case (Waits r.cr) (is_some (field_end r).fault) (λ _. ends_cr r) (λ _. ends_cr r))
 
 hash_cr : (r : Reader) → (hash r).cr ≡ r.cr
 unfolding hash
-hash_cr r = if_case (Waits r.cr) (eqb (closed r).fault 0) (λ _. closed_cr r) (λ _. closed_cr r)
+hash_cr r = if_case (Waits r.cr) (is_some (closed r).fault) (λ _. closed_cr r) (λ _. closed_cr r)
 
 character_cr : (c : ℕ) (r : Reader) → (character c r).cr ≡ r.cr
 unfolding character
-character_cr c r = if_case (Waits r.cr) (ltb 4 r.field) (λ _. refl) λ _. if_case (Waits r.cr) (eqb r.field 4) (λ _. refl) (λ _. refl)
+character_cr c r = go r.place
+  where
+    go : (p : Place) → (character_at c r p).cr ≡ r.cr
+    go (In k m) = refl
+    go Past = refl
+    go Remark = refl
 
 pub letter_cr : (c : ℕ) (r : Reader) → (letter c r).cr ≡ r.cr
 unfolding letter
 letter_cr c r =
-    if_case (Waits r.cr) (eqb r.fault 0)
-    (λ _. if_case (Waits r.cr) (is_blank c) (λ _. ends_cr r) λ _.
-    if_case (Waits r.cr) (is_hash c) (λ _. hash_cr r) (λ _. character_cr c r))
-    (λ _. refl)
+    if_case (Waits r.cr) (is_some r.fault) (λ _. refl) λ _.
+    if_case (Waits r.cr) (is_blank c) (λ _. ends_cr r) λ _.
+    if_case (Waits r.cr) (is_hash c) (λ _. hash_cr r) (λ _. character_cr c r)
 
 -- ---- one byte
 

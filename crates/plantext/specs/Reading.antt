@@ -1,94 +1,130 @@
 -- How the code reads a text, one character after the other. Text and Faults say what it must come to, and a reader need not hold this against the paper.
-use Rattle.std.specs.Prelude.{ℕ, ◌+◌, ◌*◌, ◌/◌, ◌%◌, min, Bool, true, false, List, [], ◌∷◌, set, replicate, leb, ltb, eqb}
+use Rattle.std.specs.Prelude.{ℕ, ◌+◌, ◌*◌, min, Bool, true, false, Option, Some, None, is_some, List, [], ◌∷◌, ◌++◌, take, leb, ltb, eqb}
 use Rattle.std.specs.Prelude.{if◌then◌else◌}
+use Rattle.plantext.specs.declared.Fault.{Fault}
+use Rattle.plantext.specs.declared.Fault.TheVariants.{NoWord, NoSettling, NoReadingWord, NoReading, SettlingMissing, ReadingWordMissing, ReadingMissing, Behind}
+use Rattle.plantext.specs.declared.Kind.{Kind}
+use Rattle.plantext.specs.declared.Kind.TheVariants.{MoveWord, Settling, ReadingWord, Reading}
+use Rattle.plantext.specs.declared.Number.{Number}
+use Rattle.plantext.specs.declared.Number.TheVariants.{Few, Whole, Never}
+use Rattle.plantext.specs.declared.Place.{Place}
+use Rattle.plantext.specs.declared.Place.TheVariants.{In, Past, Remark}
 use Rattle.plantext.specs.declared.Reader.{Reader}
 use Rattle.plantext.specs.Text.{is_blank, is_hash, hex_value}
 use Rattle.plantext.specs.Kept.{most, room, most_line}
 
--- ---- the reader's parts
+-- ---- fields
 
-abbrev pub reader : List ℕ → ℕ → ℕ → ℕ → ℕ → ℕ → ℕ → ℕ → Bool → Reader
-reader ms s c n e k d v cr =
-    record { moves = ms; stored = s; count = c; line = n; fault = e; field = k; digits = d; value = v; cr = cr }
+-- before a field
+abbrev pub before : Kind → Place
+before k = In k (Few 0 0)
 
-abbrev pub begin : Reader
-begin = reader (replicate room 0) 0 0 1 0 0 0 0 false
-
-abbrev pub with_fault : ℕ → Reader → Reader
-with_fault e r = reader r.moves r.stored r.count r.line e r.field r.digits r.value r.cr
-
-abbrev pub with_cr : Bool → Reader → Reader
-with_cr cr r = reader r.moves r.stored r.count r.line r.fault r.field r.digits r.value cr
-
-abbrev pub with_field : ℕ → Reader → Reader
-with_field k r = reader r.moves r.stored r.count r.line r.fault k r.digits r.value r.cr
-
-abbrev pub in_field : ℕ → ℕ → Reader → Reader
-in_field d v r = reader r.moves r.stored r.count r.line r.fault r.field d v r.cr
-
--- ---- a field: its characters, and its end
+-- the place behind a field: before the next, if there is one
+abbrev pub behind : Kind → Place
+behind MoveWord = before Settling
+behind Settling = before ReadingWord
+behind ReadingWord = before Reading
+behind Reading = Past
 
 -- the words have digits to the base 16, the times to the base 10
-unfoldable pub base : ℕ → ℕ
-base k = if eqb (k % 2) 0 then 16 else 10
+abbrev pub base : Kind → ℕ
+base MoveWord = 16
+base Settling = 10
+base ReadingWord = 16
+base Reading = 10
 
--- how far a field is after a character of value x: 8 where it is right as it stands, 9 where it never will be; a word is not right before that
-unfoldable pub digits_after : ℕ → ℕ → ℕ → ℕ
-digits_after k d x =
-    if leb (base k) x then 9
-    else if ltb 8 d then 9
-    else if eqb (base k) 10 then 8
-    else if ltb 7 d then 9 else d + 1
+-- the fault of a field that is wrong, and of a line that ends at a place: none where it has no field, or all four
+abbrev pub wrong : Kind → Fault
+wrong MoveWord = NoWord
+wrong Settling = NoSettling
+wrong ReadingWord = NoReadingWord
+wrong Reading = NoReading
 
-unfoldable pub value_after : ℕ → ℕ → ℕ → ℕ
-value_after k v x = min (v * base k + x) most
+abbrev pub missing_in : Kind → Option Fault
+missing_in MoveWord = None
+missing_in Settling = Some SettlingMissing
+missing_in ReadingWord = Some ReadingWordMissing
+missing_in Reading = Some ReadingMissing
 
--- a character of a field: behind the fourth there is none, in a comment it is passed over
+abbrev pub missing : Place → Option Fault
+missing (In k n) = missing_in k
+missing Past = None
+missing Remark = None
+
+-- ---- the characters of a field
+
+abbrev pub value_after : ℕ → ℕ → ℕ → ℕ
+value_after b v x = min (v * b + x) most
+
+-- what a field is after a digit of value x to the base b: a word has eight, and a time one or more
+abbrev pub with_digit : ℕ → ℕ → Number → Number
+with_digit b x (Few n v) = if eqb b 16 then (if ltb n 7 then Few (n + 1) (value_after b v x) else Whole (value_after b v x)) else Whole (value_after b v x)
+with_digit b x (Whole v) = if eqb b 10 then Whole (value_after b v x) else Never
+with_digit b x Never = Never
+
+-- and after a character of value x, which is a digit or none
+unfoldable pub grown : ℕ → ℕ → Number → Number
+grown b x n = if leb b x then Never else with_digit b x n
+
+-- ---- the reader's parts
+
+abbrev pub reader : List ℕ → ℕ → Option Fault → Place → Bool → Reader
+reader ns n e p cr = record { numbers = record { items = ns }; line = n; fault = e; place = p; cr = cr }
+
+abbrev pub begin : Reader
+begin = reader [] 1 None (before MoveWord) false
+
+abbrev pub with_fault : Option Fault → Reader → Reader
+with_fault e r = record r { fault = e }
+
+abbrev pub with_cr : Bool → Reader → Reader
+with_cr cr r = record r { cr = cr }
+
+abbrev pub with_place : Place → Reader → Reader
+with_place p r = record r { place = p }
+
+-- a character of a field: behind the fourth there is none, in a remark it is passed over
+abbrev pub character_at : ℕ → Reader → Place → Reader
+character_at c r (In k n) = with_place (In k (grown (base k) (hex_value c) n)) r
+character_at c r Past = with_fault (Some Behind) r
+character_at c r Remark = r
+
 unfoldable pub character : ℕ → Reader → Reader
-character c r =
-    if ltb 4 r.field then r
-    else if eqb r.field 4 then with_fault 8 r
-    else in_field (digits_after r.field r.digits (hex_value c)) (value_after r.field r.value (hex_value c)) r
+character c r = character_at c r r.place
 
--- the fault of a field that is wrong, and of a line that ends behind k fields: none where it has no field, or all four
-unfoldable pub wrong : ℕ → ℕ
-wrong k = if eqb k 0 then 1 else if eqb k 1 then 2 else if eqb k 2 then 3 else 4
-
-unfoldable pub missing : ℕ → ℕ
-missing k = if eqb k 1 then 5 else if eqb k 2 then 6 else if eqb k 3 then 7 else 0
+-- ---- the end of a field
 
 -- a number is stored where there is room
-unfoldable pub moves_after : List ℕ → ℕ → ℕ → List ℕ
-moves_after ms s v = if ltb s room then set ms s v else ms
+unfoldable pub put : List ℕ → ℕ → List ℕ
+put ns n = take room (ns ++ (n ∷ []))
 
-unfoldable pub stored_after : ℕ → ℕ
-stored_after s = if ltb s room then s + 1 else s
+abbrev pub stored : ℕ → Reader → Reader
+stored n r = record r { numbers = record { items = put r.numbers.items n } }
 
-abbrev pub store : Reader → Reader
-store r =
-    reader (moves_after r.moves r.stored r.value) (stored_after r.stored) r.count r.line r.fault r.field r.digits r.value
-    r.cr
+abbrev pub number_end : Reader → Kind → Number → Reader
+number_end r k (Few n v) = if eqb n 0 then r else with_fault (Some (wrong k)) r
+number_end r k (Whole v) = with_place (behind k) (stored v r)
+number_end r k Never = with_fault (Some (wrong k)) r
 
-unfoldable pub field_after : ℕ → ℕ
-field_after k = if ltb k 4 then k + 1 else 4
+abbrev pub field_end_at : Reader → Place → Reader
+field_end_at r (In k n) = number_end r k n
+field_end_at r Past = r
+field_end_at r Remark = r
 
 unfoldable pub field_end : Reader → Reader
-field_end r =
-    if eqb r.digits 0 then r
-    else if eqb r.digits 8 then with_field (field_after r.field) (in_field 0 0 (store r))
-    else with_fault (wrong r.field) r
+field_end r = field_end_at r r.place
 
 -- ---- what follows the fields
 
 -- nothing more of a line counts; a fault that was found stays
 abbrev pub complete : Reader → Reader
-complete q = if eqb q.fault 0 then with_fault (missing q.field) q else q
+complete q = if is_some q.fault then q else with_fault (missing q.place) q
 
 unfoldable pub closed : Reader → Reader
-closed r = if eqb r.fault 0 then complete (field_end r) else r
+closed r = if is_some r.fault then r else complete (field_end r)
 
 abbrev pub remarked : Reader → Reader
-remarked q = if eqb q.fault 0 then with_field 5 q else q
+remarked q = if is_some q.fault then q else with_place Remark q
 
 unfoldable pub hash : Reader → Reader
 hash r = remarked (closed r)
@@ -96,17 +132,19 @@ hash r = remarked (closed r)
 -- a character of a line
 unfoldable pub letter : ℕ → Reader → Reader
 letter c r =
-    if eqb r.fault 0 then (if is_blank c then field_end r else if is_hash c then hash r else character c r)
-    else r
+    if is_some r.fault then r
+    else if is_blank c then field_end r
+    else if is_hash c then hash r
+    else character c r
 
-unfoldable pub line_after : ℕ → ℕ
-line_after n = if ltb n most_line then n + 1 else n
+abbrev pub line_after : ℕ → ℕ
+line_after n = min (n + 1) most_line
 
 abbrev pub next_line : Reader → Reader
-next_line r = reader r.moves r.stored r.count (line_after r.line) r.fault 0 r.digits r.value r.cr
+next_line r = record r { line = line_after r.line; place = before MoveWord }
 
 abbrev pub onward : Reader → Reader
-onward q = if eqb q.fault 0 then next_line q else q
+onward q = if is_some q.fault then q else next_line q
 
 unfoldable pub line_end : Reader → Reader
 line_end r = onward (closed r)
@@ -127,11 +165,8 @@ unfoldable pub fed : Reader → List ℕ → Reader
 fed r [] = r
 fed r (x ∷ xs) = fed (step x r) xs
 
-abbrev pub counted : Reader → Reader
-counted r = reader r.moves r.stored (r.stored / 4) r.line r.fault r.field r.digits r.value r.cr
-
 unfoldable pub ended : Reader → Reader
-ended r = counted (closed (resolved r))
+ended r = closed (resolved r)
 
 -- the reader at the end of a text
 unfoldable pub reader_of : List ℕ → Reader

@@ -5,142 +5,169 @@
 
 ghost use Rattle.std.specs.Prelude.{◌≡◌};
 ghost use Rattle.plantext.specs.Text.{hex_value};
-ghost use Rattle.plantext.specs.Reading.{begin, base, digits_after, value_after, character, wrong, missing, store, field_after, field_end};
-ghost use Rattle.plantext.specs.Reading.{closed, hash, letter, line_after, line_end, resolved, step, fed, ended};
+ghost use Rattle.plantext.specs.Reading.{begin, base, behind, wrong, before, missing, grown, value_after, character, stored, field_end};
+ghost use Rattle.plantext.specs.Reading.{closed, hash, letter, line_end, resolved, step, fed, ended};
+
+use arrayvec::ArrayVec;
 
 // How many numbers there is room for: those of 17 moves. A plan has at most 16.
 pub const ROOM: usize = 68;
 
+// What is wrong with a line.
+#[derive(Clone, Copy, PartialEq, Eq, Debug)]
+pub enum Fault {
+    NoWord,
+    NoSettling,
+    NoReadingWord,
+    NoReading,
+    SettlingMissing,
+    ReadingWordMissing,
+    ReadingMissing,
+    Behind,
+}
+
+// The kinds of fields, in the order of a line.
+#[derive(Clone, Copy, PartialEq, Eq, Debug)]
+enum Kind {
+    MoveWord,
+    Settling,
+    ReadingWord,
+    Reading,
+}
+
+// What the characters of a field so far are.
+#[derive(Clone, Copy, PartialEq, Eq, Debug)]
+enum Number {
+    // so many digits, which are too few, and their value; none before the first character
+    Few(u8, u32),
+    // a number as they stand
+    Whole(u32),
+    // no number, whatever follows
+    Never,
+}
+
+// Where on its line the reader stands.
+#[derive(Clone, Copy, PartialEq, Eq, Debug)]
+enum Place {
+    // before a field, or in it
+    In(Kind, Number),
+    // behind the fourth
+    Past,
+    // behind a `#`
+    Remark,
+}
+
 // What was read so far.
-#[derive(Clone, Copy)]
+#[derive(Drop)]
 pub struct Reader {
-    // the first `stored` of these are the numbers read: of each move its word, settling, word, reading
-    pub moves: [u32; ROOM],
-    pub stored: usize,
-    // of an ended text, the number of its moves; 17 stands for every larger one
-    pub count: usize,
+    // of each move its word, settling, word, reading, as far as there is room
+    pub numbers: ArrayVec<u32, ROOM>,
     // the present line, from 1 on, or that of the fault
     pub line: u64,
-    // 0 for none
-    pub fault: u8,
-    // the field of the present line, from 0 on: 4 behind the fourth, 5 in a comment
-    pub field: u8,
-    // how far the field is: 0 before its first character, 8 where it is right as it stands, 9 where it never will be
-    pub digits: u8,
-    pub value: u32,
+    pub fault: Option<Fault>,
+    place: Place,
     // a CR came, of which the next byte says what it is
-    pub cr: bool,
+    cr: bool,
+}
+
+// ---- fields
+
+impl Kind {
+    // The base of its digits: 16 for the words, 10 for the times.
+    fn base(self) -> u32
+        ensures base { result ≡ base self }
+    {
+        match self {
+            Kind::MoveWord | Kind::ReadingWord => 16,
+            Kind::Settling | Kind::Reading => 10,
+        }
+    }
+
+    // The place behind it: before the next field, if there is one.
+    fn behind(self) -> Place
+        ensures place { result ≡ behind self }
+    {
+        match self {
+            Kind::MoveWord => Place::before(Kind::Settling),
+            Kind::Settling => Place::before(Kind::ReadingWord),
+            Kind::ReadingWord => Place::before(Kind::Reading),
+            Kind::Reading => Place::Past,
+        }
+    }
+
+    // The fault of a line on which it is wrong.
+    fn wrong(self) -> Fault
+        ensures fault { result ≡ wrong self }
+    {
+        match self {
+            Kind::MoveWord => Fault::NoWord,
+            Kind::Settling => Fault::NoSettling,
+            Kind::ReadingWord => Fault::NoReadingWord,
+            Kind::Reading => Fault::NoReading,
+        }
+    }
+}
+
+impl Place {
+    // Before a field.
+    fn before(kind: Kind) -> Place
+        ensures place { result ≡ before kind }
+    {
+        Place::In(kind, Number::Few(0, 0))
+    }
+
+    // The fault of a line that ends there: none where it has no field, or all four.
+    fn missing(self) -> Option<Fault>
+        ensures fault { result ≡ missing self }
+    {
+        match self {
+            Place::In(Kind::Settling, _) => Some(Fault::SettlingMissing),
+            Place::In(Kind::ReadingWord, _) => Some(Fault::ReadingWordMissing),
+            Place::In(Kind::Reading, _) => Some(Fault::ReadingMissing),
+            _ => None,
+        }
+    }
 }
 
 // ---- digits
 
 // The value of a hex digit of either case; 16 for every other character.
+// Kept: 16 and no Option, since the definition `hex_value` in specs/Text.antt says so, by which a word and a time are defined.
+#[tactic(auto, unfolding(crate::specs::Text::hex_value))]
 fn hex_value(c: u8) -> u8
     ensures value { result ≡ hex_value c }
 {
-    if c < b'a' {
-        return formats::digit_value(c);
+    match c {
+        b'a'..=b'f' => c - b'a' + 10,
+        _ => formats::digit_value(c),
     }
-    if c <= b'f' {
-        return c - b'a' + 10;
-    }
-    formats::digit_value(c)
-}
-
-// The base of a field's digits: 16 for the words, 10 for the times.
-fn base(field: u8) -> u8
-    ensures base { result ≡ base field }
-{
-    if field % 2 == 0 {
-        return 16;
-    }
-    10
-}
-
-// How far the field is after a character of value x.
-fn digits_after(field: u8, digits: u8, x: u8) -> u8
-    ensures digits { result ≡ digits_after field digits x }
-{
-    let b = base(field);
-    if b <= x {
-        return 9;
-    }
-    if 8 < digits {
-        return 9;
-    }
-    if b == 10 {
-        return 8;
-    }
-    if 7 < digits {
-        return 9;
-    }
-    digits + 1
 }
 
 // The number with a digit of value x more, or the largest where that is more.
-fn value_after(field: u8, v: u32, x: u8) -> u32
-    ensures value { result ≡ value_after field v x }
+fn value_after(base: u32, v: u32, x: u32) -> u32
+    ensures value { result ≡ value_after base v x }
 {
-    let b = base(field);
-    let w = (v as u64) * (b as u64) + (x as u64);
-    if 4294967295 < w {
-        return u32::MAX;
-    }
-    w as u32
+    v.saturating_mul(base).saturating_add(x)
 }
 
-// ---- fields and lines
-
-// The fault of a field that is wrong.
-fn wrong(field: u8) -> u8
-    ensures fault { result ≡ wrong field }
-{
-    if field == 0 {
-        return 1;
+impl Number {
+    // What it is with a character of value x more.
+    #[tactic(auto, unfolding(crate::specs::Reading::grown))]
+    fn grown(self, base: u32, x: u32) -> Number
+        ensures number { result ≡ grown base x self }
+    {
+        if base <= x {
+            return Number::Never;
+        }
+        match self {
+            Number::Few(n, v) if base == 16 && n < 7 => {
+                Number::Few(n + 1, value_after(base, v, x))
+            }
+            Number::Few(_, v) => Number::Whole(value_after(base, v, x)),
+            Number::Whole(v) if base == 10 => Number::Whole(value_after(base, v, x)),
+            _ => Number::Never,
+        }
     }
-    if field == 1 {
-        return 2;
-    }
-    if field == 2 {
-        return 3;
-    }
-    4
-}
-
-// The fault of a line that ends behind so many fields: none where it has no field, or all four.
-fn missing(field: u8) -> u8
-    ensures fault { result ≡ missing field }
-{
-    if field == 1 {
-        return 5;
-    }
-    if field == 2 {
-        return 6;
-    }
-    if field == 3 {
-        return 7;
-    }
-    0
-}
-
-// The field behind a field.
-fn field_after(field: u8) -> u8
-    ensures field { result ≡ field_after field }
-{
-    if field < 4 {
-        return field + 1;
-    }
-    4
-}
-
-// The number of the next line; the largest stands for every larger one.
-fn line_after(n: u64) -> u64
-    ensures line { result ≡ line_after n }
-{
-    if n < u64::MAX {
-        return n + 1;
-    }
-    n
 }
 
 // ---- the text
@@ -150,176 +177,154 @@ pub fn begin() -> Reader
     ensures begins { result ≡ begin }
 {
     Reader {
-        moves: [0; ROOM],
-        stored: 0,
-        count: 0,
+        numbers: ArrayVec::new(),
         line: 1,
-        fault: 0,
-        field: 0,
-        digits: 0,
-        value: 0,
+        fault: None,
+        place: Place::before(Kind::MoveWord),
         cr: false,
     }
 }
 
 impl Reader {
-    // A character of a field: behind the fourth there is none, in a comment it is passed over.
-    fn character(mut self, c: u8) -> Reader
-        ensures read { result ≡ character c self }
+    // A character of a field: behind the fourth there is none, in a remark it is passed over.
+    #[tactic(auto, unfolding(crate::specs::Reading::character))]
+    fn read_plain(&mut self, c: u8)
+        ensures read { self.new ≡ character c self.old }
     {
-        let field = self.field;
-        if 4 < field {
-            return self;
+        match self.place {
+            Place::In(kind, number) => {
+                self.place = Place::In(kind, number.grown(kind.base(), hex_value(c) as u32));
+            }
+            Place::Past => self.fault = Some(Fault::Behind),
+            Place::Remark => {}
         }
-        if field == 4 {
-            self.fault = 8;
-            return self;
-        }
-        let x = hex_value(c);
-        self.digits = digits_after(field, self.digits, x);
-        self.value = value_after(field, self.value, x);
-        self
     }
 
-    // The number of the field is stored, where there is room.
-    fn store(mut self) -> Reader
-        ensures stored { result ≡ store self }
+    // The number of a field is stored, where there is room.
+    #[tactic(auto, using(crate::proofs::Storing::one_more))]
+    fn store(&mut self, n: u32)
+        ensures stored { self.new ≡ stored n self.old }
     {
-        let at = self.stored;
-        if at < ROOM {
-            self.moves[at] = self.value;
-            self.stored = at + 1;
-            return self;
+        if !self.numbers.is_full() {
+            self.numbers.push(n);
         }
-        self
     }
 
     // A field is over, if there was one.
-    fn field_end(self) -> Reader
-        ensures read { result ≡ field_end self }
+    #[tactic(auto, unfolding(crate::specs::Reading::field_end))]
+    fn end_field(&mut self)
+        ensures read { self.new ≡ field_end self.old }
     {
-        if self.digits == 0 {
-            return self;
+        match self.place {
+            Place::In(kind, Number::Whole(n)) => {
+                self.store(n);
+                self.place = kind.behind();
+            }
+            Place::In(_, Number::Few(0, _)) | Place::Past | Place::Remark => {}
+            Place::In(kind, _) => self.fault = Some(kind.wrong()),
         }
-        if self.digits == 8 {
-            let mut r = self.store();
-            r.field = field_after(r.field);
-            r.digits = 0;
-            r.value = 0;
-            return r;
-        }
-        let mut r = self;
-        r.fault = wrong(r.field);
-        r
     }
 
     // Nothing more of a line counts: has it all its fields? A fault that was found stays.
-    fn closed(self) -> Reader
-        ensures read { result ≡ closed self }
+    #[tactic(auto, unfolding(crate::specs::Reading::closed))]
+    fn close(&mut self)
+        ensures read { self.new ≡ closed self.old }
     {
-        if self.fault != 0 {
-            return self;
+        if self.fault.is_none() {
+            self.end_field();
         }
-        let mut r = self.field_end();
-        if r.fault != 0 {
-            return r;
+        if self.fault.is_none() {
+            self.fault = self.place.missing();
         }
-        r.fault = missing(r.field);
-        r
     }
 
-    // A comment begins.
-    fn hash(self) -> Reader
-        ensures read { result ≡ hash self }
+    // A remark begins.
+    #[tactic(auto, unfolding(crate::specs::Reading::hash))]
+    fn begin_remark(&mut self)
+        ensures read { self.new ≡ hash self.old }
     {
-        let mut r = self.closed();
-        if r.fault != 0 {
-            return r;
+        self.close();
+        if self.fault.is_none() {
+            self.place = Place::Remark;
         }
-        r.field = 5;
-        r
     }
 
-    // A line is over.
-    fn line_end(self) -> Reader
-        ensures read { result ≡ line_end self }
+    // A line is over. The largest number stands for every line behind it.
+    #[tactic(auto, unfolding(crate::specs::Reading::line_end))]
+    fn end_line(&mut self)
+        ensures read { self.new ≡ line_end self.old }
     {
-        let mut r = self.closed();
-        if r.fault != 0 {
-            return r;
+        self.close();
+        if self.fault.is_none() {
+            self.line = self.line.saturating_add(1);
+            self.place = Place::before(Kind::MoveWord);
         }
-        r.line = line_after(r.line);
-        r.field = 0;
-        r
     }
 
     // A character of a line.
-    fn letter(self, c: u8) -> Reader
-        ensures read { result ≡ letter c self }
+    #[tactic(auto, unfolding(crate::specs::Reading::letter))]
+    fn read(&mut self, c: u8)
+        ensures read { self.new ≡ letter c self.old }
     {
-        if self.fault != 0 {
-            return self;
+        if self.fault.is_some() {
+            return;
         }
-        if c == 32 {
-            return self.field_end();
+        match c {
+            b' ' | b'\t' => self.end_field(),
+            b'#' => self.begin_remark(),
+            _ => self.read_plain(c),
         }
-        if c == 9 {
-            return self.field_end();
-        }
-        if c == b'#' {
-            return self.hash();
-        }
-        self.character(c)
     }
 
     // A CR that no LF follows is a character of its line.
-    fn resolved(self) -> Reader
-        ensures read { result ≡ resolved self }
+    #[tactic(auto, unfolding(crate::specs::Reading::resolved))]
+    fn resolve(&mut self)
+        ensures read { self.new ≡ resolved self.old }
     {
         if self.cr {
-            let mut r = self;
-            r.cr = false;
-            return r.letter(13);
+            self.cr = false;
+            self.read(b'\r');
         }
-        self
     }
 
     // A byte of the text.
-    fn step(self, x: u8) -> Reader
-        ensures read { result ≡ step x self }
+    #[tactic(auto, unfolding(crate::specs::Reading::step, crate::specs::Reading::byte_after))]
+    fn step(&mut self, x: u8)
+        ensures read { self.new ≡ step x self.old }
     {
-        if x == 10 {
-            let mut r = self;
-            r.cr = false;
-            return r.line_end();
+        match x {
+            b'\n' => {
+                self.cr = false;
+                self.end_line();
+            }
+            b'\r' => {
+                self.resolve();
+                self.cr = true;
+            }
+            _ => {
+                self.resolve();
+                self.read(x);
+            }
         }
-        if x == 13 {
-            let mut r = self.resolved();
-            r.cr = true;
-            return r;
-        }
-        self.resolved().letter(x)
     }
 
     // Bytes that follow what was read so far.
-    pub fn fed(self, bytes: &[u8]) -> Reader
-        ensures fed { result ≡ fed self bytes.now }
+    #[tactic(auto, using(crate::proofs::Feeding::by_bytes))]
+    pub fn feed(&mut self, bytes: &[u8])
+        ensures fed { self.new ≡ fed self.old bytes.now }
     {
-        let mut r = self;
-        let mut i: usize = 0;
-        while i < bytes.len() {
-            r = r.step(bytes[i]);
-            i += 1;
+        for x in bytes {
+            self.step(*x);
         }
-        r
     }
 
     // The text is over: the last line, which may lack its end, is closed.
-    pub fn ended(self) -> Reader
+    #[tactic(auto, unfolding(crate::specs::Reading::ended))]
+    pub fn ended(mut self) -> Reader
         ensures ended { result ≡ ended self }
     {
-        let mut r = self.resolved().closed();
-        r.count = r.stored / 4;
-        r
+        self.resolve();
+        self.close();
+        self
     }
 }
