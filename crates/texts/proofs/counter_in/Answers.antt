@@ -1,23 +1,24 @@
 -- `texts::counter_in` meets its contract.
 -- Assumes nothing.
+use Rattle.std.proofs.Common.{sym}
+use native.Mathlib.Omega.{arith}
 use borrow.Author.Tests.{le-leb, lt-leb}
 use Rattle.formats.specs.Checks.{◌>>=◌, ◌>>◌, ◌or_else◌}
-use Rattle.formats.proofs.NumbersRead.{number_told}
 use Rattle.texts.specs.Text.{counter_in}
 use Rattle.texts.proofs.counter_in.Goals as goal
 
+pub returns-in_err-c : goal.returns-in_err-c
+unfolding counter_in ◌>>=◌ ◌>>◌ ◌or_else◌
+returns-in_err-c c = record { counter = rw c.from_residual.ensures (simp (sym (c.in_err-c.ensures.number 3))) }
+
+pub returns-in-1-to-4 : goal.returns-in-1-to-4
+unfolding counter_in ◌>>=◌ ◌>>◌ ◌or_else◌
+returns-in-1-to-4 c = record { counter = simp (sym (c.in_ok-c.ensures.number 3), le-leb 1 c.in_ok-c.c (omega arith), le-leb c.in_ok-c.c 4 (omega arith)) }
+
 pub returns-in_default : goal.returns-in_default
 unfolding counter_in ◌>>=◌ ◌>>◌ ◌or_else◌
-returns-in_default c = record { counter = simp (number_told 3 c.in_default.is (c.number_in.ensures.number 3)) }
+returns-in_default c = record { counter = simp (sym (c.in_ok-c.ensures.number 3), lt-leb 1 c.in_ok-c.c (omega arith)) }
 
-pub returns-then-c-lt1 : goal.returns-then-c-lt1
+pub returns-in_default-2 : goal.returns-in_default-2
 unfolding counter_in ◌>>=◌ ◌>>◌ ◌or_else◌
-returns-then-c-lt1 c = record { counter = simp (number_told 3 c.in-Is.is (c.number_in.ensures.number 3), lt-leb _ _ c.if-c-lt1.true) }
-
-pub returns-then-c-gt4 : goal.returns-then-c-gt4
-unfolding counter_in ◌>>=◌ ◌>>◌ ◌or_else◌
-returns-then-c-gt4 c = record { counter = simp (number_told 3 c.in-Is.is (c.number_in.ensures.number 3), le-leb _ _ c.if-c-lt1.false, lt-leb _ _ c.if-c-gt4.true) }
-
-pub returns : goal.returns
-unfolding counter_in ◌>>=◌ ◌>>◌ ◌or_else◌
-returns c = record { counter = simp (number_told 3 c.in-Is.is (c.number_in.ensures.number 3), le-leb _ _ c.if-c-lt1.false, le-leb _ _ c.if-c-gt4.false) }
+returns-in_default-2 c = record { counter = simp (sym (c.in_ok-c.ensures.number 3), le-leb 1 c.in_ok-c.c (omega arith), lt-leb c.in_ok-c.c 4 (omega arith)) }

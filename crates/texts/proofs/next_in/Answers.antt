@@ -1,20 +1,14 @@
 -- `texts::next_in` meets its contract.
 -- Assumes nothing.
-use Rattle.formats.specs.Checks.{◌>>=◌, ◌>>◌, ◌or_else◌}
-use Rattle.formats.proofs.NumbersRead.{number_told}
+use Rattle.std.proofs.Common.{sym}
+use Rattle.formats.specs.Checks.{◌>>=◌}
 use Rattle.texts.specs.Text.{next_in}
-use Rattle.texts.proofs.LinesRead.{counter_fits}
 use Rattle.texts.proofs.next_in.Goals as goal
 
-pub returns-in_default : goal.returns-in_default
-unfolding next_in ◌>>=◌ ◌>>◌ ◌or_else◌
-returns-in_default c = record { line = simp (number_told 3 c.in_default.is c.counter_in.ensures.counter) }
+pub returns-in_err-counter : goal.returns-in_err-counter
+unfolding next_in ◌>>=◌
+returns-in_err-counter c = record { line = rw c.from_residual.ensures (simp (sym c.in_err-counter.ensures.counter)) }
 
 pub returns : goal.returns
-unfolding next_in ◌>>=◌ ◌>>◌ ◌or_else◌
-returns c =
-    record {
-      line =
-          let k = number_told 3 c.in-Is.is c.counter_in.ensures.counter in
-          simp (k, counter_fits _ _ k);
-    }
+unfolding next_in ◌>>=◌
+returns c = record { line = simp (sym c.in_ok-counter.ensures.counter) }

@@ -1,57 +1,46 @@
 -- `texts::state_in` meets its contract, part by part.
 -- Assumes nothing.
+use Rattle.std.proofs.Common.{sym}
 use borrow.Author.Tests.{eq-eqb, ne_eqb}
+use native.Mathlib.Omega.{arith}
+use borrow.Author.Rules.{rules}
 use Rattle.formats.specs.Checks.{◌>>=◌, ◌>>◌, ◌or_else◌}
-use Rattle.formats.proofs.NumbersRead.{number_told}
 use Rattle.texts.specs.Text.{state_in}
 use Rattle.texts.proofs.LinesRead.{time_fits}
-use borrow.Author.Rules.{rules}
 use Rattle.texts.proofs.state_in.Goals as goal
 
-pub returns-in_default : goal.returns-in_default
+pub returns-in_err-reserved : goal.returns-in_err-reserved
 unfolding state_in ◌>>=◌ ◌>>◌ ◌or_else◌
-returns-in_default c = record { line = simp (number_told 3 c.in_default.is (c.number_in.ensures.number 3)) }
+returns-in_err-reserved c = record { line = rw c.from_residual.ensures (simp (sym (c.in_err-reserved.ensures.number 3))) }
 
 pub returns-then-reserved-ne0 : goal.returns-then-reserved-ne0
 unfolding state_in ◌>>=◌ ◌>>◌ ◌or_else◌
-returns-then-reserved-ne0 c = record { line = simp (number_told 3 c.in-Is.is (c.number_in.ensures.number 3), ne_eqb _ _ c.if-reserved-ne0.true) }
+returns-then-reserved-ne0 c = record { line = simp (sym (c.in_ok-reserved.ensures.number 3), ne_eqb _ _ c.if-reserved-ne0.true) }
 
-pub returns-in_default-number_in : goal.returns-in_default-number_in
+pub returns-in_err-outputs : goal.returns-in_err-outputs
 unfolding state_in ◌>>=◌ ◌>>◌ ◌or_else◌
-returns-in_default-number_in c =
+returns-in_err-outputs c =
     record {
       line =
-          simp (
-            number_told 3 c.in-Is.is (c.number_in.ensures.number 3),
-            eq-eqb _ _ c.if-reserved-ne0.false,
-            number_told 3 c.in_default-number_in.is (c.number_in-2.ensures.number 3),
-          );
+          rw c.from_residual-in_err-outputs.ensures
+          (simp (sym (c.in_ok-reserved.ensures.number 3), eq-eqb _ _ c.if-reserved-ne0.false, sym (c.in_err-outputs.ensures.number 3)));
     }
 
-pub returns-in_default-number_in-2 : goal.returns-in_default-number_in-2
+pub returns-in_err-time : goal.returns-in_err-time
 unfolding state_in ◌>>=◌ ◌>>◌ ◌or_else◌
-returns-in_default-number_in-2 c =
+returns-in_err-time c =
     record {
       line =
-          simp (
-            number_told 3 c.in-Is.is (c.number_in.ensures.number 3),
-            eq-eqb _ _ c.if-reserved-ne0.false,
-            number_told 3 c.in-Is-number_in.is (c.number_in-2.ensures.number 3),
-            number_told 3 c.in_default-number_in-2.is (c.number_in-3.ensures.number 3),
-          );
+          rw c.from_residual-in_err-time.ensures
+          (simp (sym (c.in_ok-reserved.ensures.number 3), eq-eqb _ _ c.if-reserved-ne0.false, sym (c.in_ok-outputs.ensures.number 3), sym (c.in_err-time.ensures.number 3)));
     }
+
+pub overflow_cast-time : goal.overflow_cast-time
+overflow_cast-time c = omega (arith, time_fits 11 c.in_ok-time.field-0 c.args.cs.now (search rules) (sym (c.in_ok-time.ensures.number 3)))
 
 pub returns : goal.returns
 unfolding state_in ◌>>=◌ ◌>>◌ ◌or_else◌
 returns c =
     record {
-      line =
-          let e = number_told 3 c.in-Is-number_in-2.is (c.number_in-3.ensures.number 3) in
-          simp (
-            number_told 3 c.in-Is.is (c.number_in.ensures.number 3),
-            eq-eqb _ _ c.if-reserved-ne0.false,
-            number_told 3 c.in-Is-number_in.is (c.number_in-2.ensures.number 3),
-            e,
-            time_fits 11 _ c.args.cs.now (search rules) e,
-          );
+      line = simp (sym (c.in_ok-reserved.ensures.number 3), eq-eqb _ _ c.if-reserved-ne0.false, sym (c.in_ok-outputs.ensures.number 3), sym (c.in_ok-time.ensures.number 3));
     }
