@@ -18,6 +18,39 @@ use Rattle.formats.specs.Bytes.{part}
 use Rattle.wire.specs.Command.{char, is_read, is_write, is_stepwise, has_address, in_format, rest, address_in, is_writable}
 use Rattle.wire.specs.Naming.{Names, by_digits, by_i, by_d, IsStep, NamesNone}
 
+-- the ways of the check, one law for each: I, D, and three digits
+module _ (next : ℕ) (cs : List ℕ) where
+  pub onward : char cs 2 ≡ code "I" → next ≤ 216 → address_in next cs ≡ passed next
+  unfolding address_in ◌>>◌ ◌or_else◌
+  onward i le = rw (i, le-leb next 216 le)
+
+  pub not_onward : char cs 2 ≡ code "I" → 216 < next → address_in next cs ≡ refused 4
+  unfolding address_in ◌>>◌ ◌or_else◌
+  not_onward i lt = rw (i, lt-leb next 216 lt)
+
+  pub backward : char cs 2 ≡ code "D" → 2 ≤ next → address_in next cs ≡ passed (next - 2)
+  unfolding address_in ◌>>◌ ◌or_else◌
+  backward d le = rw (d, le-leb 2 next le)
+
+  pub not_backward : char cs 2 ≡ code "D" → next < 2 → address_in next cs ≡ refused 4
+  unfolding address_in ◌>>◌ ◌or_else◌
+  not_backward d lt = rw (d, lt-leb 2 next lt)
+
+  module _ (i : char cs 2 ≡ code "I" → ⊥) (d : char cs 2 ≡ code "D" → ⊥) where
+    pub not_digits : number_in 10 4 (part 2 3 cs) ≡ refused 4 → address_in next cs ≡ refused 4
+    unfolding address_in ◌>>=◌
+    not_digits n = rw (ne_eqb _ _ i, ne_eqb _ _ d, n)
+
+    pub by_number : (k : ℕ) → number_in 10 4 (part 2 3 cs) ≡ passed k → k ≤ 216 → address_in next cs ≡ passed k
+    unfolding address_in ◌>>=◌ ◌>>◌ ◌or_else◌
+    by_number k n le = rw (ne_eqb _ _ i, ne_eqb _ _ d, n, le-leb k 216 le)
+
+    pub beyond : (k : ℕ) → number_in 10 4 (part 2 3 cs) ≡ passed k → 216 < k → address_in next cs ≡ refused 4
+    unfolding address_in ◌>>=◌ ◌>>◌ ◌or_else◌
+    beyond k n lt = rw (ne_eqb _ _ i, ne_eqb _ _ d, n, lt-leb k 216 lt)
+
+pub ruleset address_ways = (onward, not_onward, backward, not_backward, not_digits, beyond)
+
 -- no digit is the letter I or D
 digit_no_letter : (v : ℕ) → v < 10 → (eqb (digit_char v) (code "I") ≡ false) × (eqb (digit_char v) (code "D") ≡ false)
 digit_no_letter v lt =

@@ -124,8 +124,8 @@ module _ (mode : Mode) (parameter : ℕ) where
   parameter_read v le = rw (d_back v le)
 
   pub special_read : (s : Special) → Permitted mode parameter s → data_in mode parameter 210 (d (code_of s)) ≡ passed (WriteSpecial s)
-  unfolding data_in
-  special_read s p = let hi = code_high s in is_given mode parameter _ (code_of s) (d_back (code_of s) (omega arith)) s (code_back s) p.may p.reaches
+  unfolding data_in ◌or_else◌
+  special_read s p = let hi = code_high s in is_given mode parameter _ (code_of s) (d_back (code_of s) (omega arith)) s (code_back s) (rw p.may) p.reaches
 
 -- So every line whose values fit is accepted when no program runs: a box that answers E002 to all fails this.
 pub write_accepted : (w : Wire) (mode : Mode) (parameter : ℕ) → w.overlong ≡ false → (k : ℕ) (a : List ℕ) (l : Line) → Fits l → mode ≡ Stop → k ≤ 200

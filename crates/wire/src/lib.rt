@@ -1,18 +1,18 @@
 // The wire: characters are collected, byte 13 ends a command, and the checks decide what it asks for.
-// Definitions: specs/Collecting.antt, specs/Command.antt; specs/HeardCommand.antt for what the types of the answers stand for.
+// Definitions: specs/Collecting.antt, specs/Command.antt; for what a Result stands for, specs/Numbers.antt of formats.
 #![tactic(auto)]
 
 ghost use Rattle.std.specs.Prelude.{◌≡◌, true, ◌≤◌, length};
+ghost use Rattle.formats.specs.Errors.{number_of};
+ghost use Rattle.formats.specs.Numbers.{res_of};
 ghost use Rattle.wire.specs.Collecting.{fresh_wire, read_to, wrote_to, collect, cleared, capital};
 ghost use Rattle.wire.specs.Command.{has_address, in_format};
 ghost use Rattle.wire.specs.Command.{special_in, data_in, read_command, write_command, command_in, command};
-ghost use Rattle.wire.specs.HeardCommand.{given_of, heard_of};
 ghost use Rattle.wire.specs.Invariant.{WireInvariant};
 
-use formats::Byte;
+use formats::Error;
 use lines::Line;
-use special::{Mode, Named, Special};
-use texts::Parsed;
+use special::{Mode, Special};
 
 mod address;
 
@@ -21,6 +21,7 @@ mod address;
 #[derive(Clone, Copy)]
 pub struct Wire {
     // the first `len` of these are the characters kept, in capitals
+    // Kept: an array with a length beside it, which is how the C interface holds it.
     pub chars: [u8; 32],
     pub len: usize,
     // a 33rd character came
@@ -47,28 +48,13 @@ pub enum Asked {
     Write(u8, Data),
 }
 
-// What the data of a write are heard as: the data, or the number of the error.
-#[derive(Clone, Copy)]
-pub enum Given {
-    Is(Data),
-    Error(u8),
-}
-
-// What a finished command is heard as.
-#[derive(Clone, Copy)]
-pub enum Heard {
-    Is(Asked),
-    Error(u8),
-}
-
 impl Wire {
     // At power-on nothing is collected, and the last addresses are before 000.
     pub fn fresh() -> Wire
         ensures wire { result ≡ fresh_wire }
     {
-        let chars = [0u8; 32];
         Wire {
-            chars,
+            chars: [0; 32],
             len: 0,
             overlong: false,
             nextread: 0,
@@ -96,6 +82,7 @@ impl Wire {
 
     // A byte other than 13: 32 is dropped, a character is kept as a capital where there is room, and makes the command overlong where there
     // is none.
+    #[tactic(auto, unfolding(crate::specs::Collecting::collect))]
     pub fn collect(mut self, x: u8) -> Wire
         requires { self.len ≤ 32 }
         ensures collected { result ≡ collect x self }
@@ -103,13 +90,12 @@ impl Wire {
         if x == 32 {
             return self;
         }
-        let at = self.len;
-        if at < 32 {
-            self.chars[at] = capital(x);
-            self.len = at + 1;
-            return self;
+        if self.len < 32 {
+            self.chars[self.len] = x.to_ascii_uppercase();
+            self.len += 1;
+        } else {
+            self.overlong = true;
         }
-        self.overlong = true;
         self
     }
 
@@ -123,122 +109,60 @@ impl Wire {
     }
 }
 
-// a-z count as A-Z.
-fn capital(c: u8) -> u8
-    ensures capital { result ≡ capital c }
-{
-    if c < b'a' {
-        return c;
-    }
-    if b'z' < c {
-        return c;
-    }
-    c - 32
-}
-
 // Check 7: the special command that a code names; E003 where it names none, the table's error where it is forbidden in the present state,
 // E023 where the parameter is out of its reach.
-fn special_in(mode: Mode, parameter: u8, cs: &[u8]) -> Given
-    ensures special { result ≡ given_of (special_in mode parameter cs.now) }
+#[tactic(auto, using(crate::proofs::Ways::special_ways))]
+fn special_in(mode: Mode, parameter: u8, cs: &[u8]) -> Result<Data, Error>
+    ensures special { res_of number_of result ≡ special_in mode parameter cs.now }
 {
-    let code = match formats::d_in(cs) {
-        Byte::Is(n) => n,
-        Byte::Error(e) => {
-            return Given::Error(e);
-        }
-    };
-    let s = match special::special_of(code) {
-        Named::Is(s) => s,
-        Named::Error(e) => {
-            return Given::Error(e);
-        }
-    };
-    let forbidden = special::forbidden(s, mode);
-    if forbidden != 0 {
-        return Given::Error(forbidden);
+    let code = formats::d_in(cs)?;
+    let s = special::special_of(code).ok_or(Error::NotInFormat)?;
+    special::allowed(s, mode)?;
+    if !special::in_reach(s, parameter) {
+        return Err(Error::OutOfReach);
     }
-    if special::in_reach(s, parameter) {
-        return Given::Is(Data::WriteSpecial(s));
-    }
-    Given::Error(23)
+    Ok(Data::WriteSpecial(s))
 }
 
 // The data of a write, by its address: a line, outputs, the parameter or a special command.
-fn data_in(mode: Mode, parameter: u8, k: u8, cs: &[u8]) -> Given
-    ensures data { result ≡ given_of (data_in mode parameter k cs.now) }
+#[tactic(auto, using(crate::proofs::Ways::data_ways))]
+fn data_in(mode: Mode, parameter: u8, k: u8, cs: &[u8]) -> Result<Data, Error>
+    ensures data { res_of number_of result ≡ data_in mode parameter k cs.now }
 {
-    if k <= 200 {
-        let l = match texts::line_in(cs) {
-            Parsed::Is(l) => l,
-            Parsed::Error(e) => {
-                return Given::Error(e);
-            }
-        };
-        return Given::Is(Data::WriteLine(l));
+    match k {
+        0..=200 => Ok(Data::WriteLine(texts::line_in(cs)?)),
+        201..=206 => Ok(Data::WriteOutputs(formats::h_in(cs)?)),
+        209 => Ok(Data::WriteParameter(formats::d_in(cs)?)),
+        _ => special_in(mode, parameter, cs),
     }
-    if k <= 206 {
-        let x = match formats::h_in(cs) {
-            Byte::Is(x) => x,
-            Byte::Error(e) => {
-                return Given::Error(e);
-            }
-        };
-        return Given::Is(Data::WriteOutputs(x));
-    }
-    if k == 209 {
-        let v = match formats::d_in(cs) {
-            Byte::Is(v) => v,
-            Byte::Error(e) => {
-                return Given::Error(e);
-            }
-        };
-        return Given::Is(Data::WriteParameter(v));
-    }
-    special_in(mode, parameter, cs)
 }
 
 // A read: the address, and nothing behind it.
-fn read_command(next: u8, cs: &[u8]) -> Heard
+fn read_command(next: u8, cs: &[u8]) -> Result<Asked, Error>
     requires { (3 ≤ length cs.now) × (has_address cs.now ≡ true) }
-    ensures read { result ≡ heard_of (read_command next cs.now) }
+    ensures read { res_of number_of result ≡ read_command next cs.now }
 {
-    let k = match address::address_in(next, cs) {
-        Byte::Is(k) => k,
-        Byte::Error(e) => {
-            return Heard::Error(e);
-        }
-    };
+    let k = address::address_in(next, cs)?;
     if address::rest_at(cs) < cs.len() {
-        return Heard::Error(2);
+        return Err(Error::Malformed);
     }
-    Heard::Is(Asked::Read(k))
+    Ok(Asked::Read(k))
 }
 
 // A write: an address that can be written, and now; then its data.
-fn write_command(mode: Mode, parameter: u8, next: u8, cs: &[u8]) -> Heard
+fn write_command(mode: Mode, parameter: u8, next: u8, cs: &[u8]) -> Result<Asked, Error>
     requires { (3 ≤ length cs.now) × (has_address cs.now ≡ true) }
-    ensures write { result ≡ heard_of (write_command mode parameter next cs.now) }
+    ensures write { res_of number_of result ≡ write_command mode parameter next cs.now }
 {
-    let k = match address::address_in(next, cs) {
-        Byte::Is(k) => k,
-        Byte::Error(e) => {
-            return Heard::Error(e);
-        }
-    };
-    if address::is_writable(k) {
-        if address::is_open(mode, k) {
-            let at = address::rest_at(cs);
-            let data = match data_in(mode, parameter, k, &cs[at..]) {
-                Given::Is(data) => data,
-                Given::Error(e) => {
-                    return Heard::Error(e);
-                }
-            };
-            return Heard::Is(Asked::Write(k, data));
-        }
-        return Heard::Error(5);
+    let k = address::address_in(next, cs)?;
+    if !address::is_writable(k) {
+        return Err(Error::NoAddress);
     }
-    Heard::Error(4)
+    if !address::is_open(mode, k) {
+        return Err(Error::NotNow);
+    }
+    let data = data_in(mode, parameter, k, &cs[address::rest_at(cs)..])?;
+    Ok(Asked::Write(k, data))
 }
 
 // Check 2: not overlong, C, then R or W, and room for an address.
@@ -246,44 +170,32 @@ fn in_format(overlong: bool, cs: &[u8]) -> bool
     requires { 3 ≤ length cs.now }
     ensures format { result ≡ in_format overlong cs.now }
 {
-    if overlong {
-        return false;
-    }
-    if cs[0] != b'C' {
-        return false;
-    }
-    let second = cs[1];
-    if second == b'R' {
-        return address::has_address(cs);
-    }
-    if second == b'W' {
-        return address::has_address(cs);
-    }
-    false
+    !overlong && cs[0] == b'C' && matches!(cs[1], b'R' | b'W') && address::has_address(cs)
 }
 
 // The characters of a command, check by check.
-fn command_in(cs: &[u8], w: Wire, mode: Mode, parameter: u8) -> Heard
-    ensures command { result ≡ heard_of (command_in cs.now w mode parameter) }
+#[tactic(auto, using(crate::proofs::Ways::command_ways))]
+fn command_in(cs: &[u8], w: Wire, mode: Mode, parameter: u8) -> Result<Asked, Error>
+    ensures command { res_of number_of result ≡ command_in cs.now w mode parameter }
 {
     if cs.len() < 3 {
-        return Heard::Error(1);
+        return Err(Error::TooShort);
     }
-    if in_format(w.overlong, cs) {
-        if cs[1] == b'R' {
-            return read_command(w.nextread, cs);
-        }
-        return write_command(mode, parameter, w.nextwrite, cs);
+    if !in_format(w.overlong, cs) {
+        return Err(Error::Malformed);
     }
-    Heard::Error(2)
+    if cs[1] == b'R' {
+        read_command(w.nextread, cs)
+    } else {
+        write_command(mode, parameter, w.nextwrite, cs)
+    }
 }
 
 // What the collected characters ask for.
-pub fn command(w: Wire, mode: Mode, parameter: u8) -> Heard
+#[tactic(auto, unfolding(crate::specs::Command::command, crate::specs::Collecting::sent))]
+pub fn command(w: Wire, mode: Mode, parameter: u8) -> Result<Asked, Error>
     requires { WireInvariant w }
-    ensures command { result ≡ heard_of (command w mode parameter) }
+    ensures command { res_of number_of result ≡ command w mode parameter }
 {
-    let len = w.len;
-    let chars = w.chars;
-    command_in(&chars[0..len], w, mode, parameter)
+    command_in(&w.chars[..w.len], w, mode, parameter)
 }
