@@ -4,7 +4,7 @@
 // below stand for, specs/Writing.antt for what writing into an area leaves there.
 #![tactic(auto)]
 
-ghost use Rattle.std.specs.Prelude.{◌≡◌, [], ◌∷◌, ◌++◌, ℕ, ◌+◌, ◌*◌, ◌≤◌, ◌<◌, min, length, take, drop};
+ghost use Rattle.std.specs.Prelude.{◌≡◌, [], ◌∷◌, ◌++◌, ℕ, ◌+◌, ◌*◌, ◌≤◌, ◌<◌, min, length};
 ghost use Rattle.formats.specs.Errors.{number_of as number_of_error, distinct as distinct_errors};
 ghost use Rattle.formats.specs.Digits.{number, digit_value, digit_char, shown, number_in, h_in, d_in, width, most_digits, decimal, decimal_in, error_text};
 ghost use Rattle.formats.specs.Bytes.{bytes};
@@ -97,14 +97,6 @@ pub fn four_bytes(v: u32) -> [u8; 4]
     ensures bytes { result ≡ bytes 4 v }
 {
     v.to_be_bytes()
-}
-
-// The first n bytes of `to` become those of `from`, and the rest of `to` stays.
-pub fn copy(from: &[u8], to: &mut [u8], n: usize)
-    requires { (n ≤ length from.now) × (n ≤ length to.old) }
-    ensures copied { to.new ≡ take n from.now ++ drop n to.old }
-{
-    to[..n].copy_from_slice(&from[..n]);
 }
 
 // ---- characters

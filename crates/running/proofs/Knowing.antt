@@ -9,19 +9,14 @@ use lib.ListN.{length, get_or, set}
 use lib.Seq.{get_or-set_same, get_or-set_other}
 use Rattle.formats.proofs.Order.{last_or_before}
 use Rattle.lines.specs.declared.Line.{Line}
-use Rattle.lines.specs.declared.Line.TheVariants.{For}
 use Rattle.std.specs.Option.{is_some}
 use Rattle.lines.specs.Line.{counter_in}
-use Rattle.lines.specs.Program.{line_at, next_after}
-use Rattle.running.specs.declared.Counter.{Counter}
-use Rattle.running.specs.declared.Turn.{Turn}
+use Rattle.lines.specs.Program.{line_at}
 use Rattle.running.specs.declared.Run.{Run}
 use Rattle.running.specs.declared.Ran.{Ran}
 use Rattle.running.specs.declared.How.{How}
 use Rattle.running.specs.declared.How.TheVariants.{Holds, Ends, GoesOn}
 use Rattle.running.specs.Running.{is_for_or_next, step, stops, rests, follow, run_due}
-use Rattle.running.specs.Turn.{Leads}
-use Rattle.std.specs.Option.{unwrap_or}
 use Rattle.running.specs.declared.known.Known.{Known}
 use Rattle.running.specs.Known.{IsKnown, Below, unknown}
 use Rattle.running.proofs.Turns.{is_counted, not_counted, none_left}
@@ -38,12 +33,6 @@ module _ (p : List ℕ) where
       last_or_before k i (omega arith)
       (λ e. subst (λ j. IsKnown p j (get_or (set ts i x) j unknown)) (sym e) (rw (get_or-set_same ts i x unknown lt) is))
       (λ before. rw (get_or-set_other ts i k x unknown (λ e. omega arith)) (below k before))
-
--- ---- a turn by it
-
-pub known_leads : (p : List ℕ) (k : ℕ) (x : Known) → IsKnown p k x → (c n : ℕ) → x.line ≡ For c n → (held : Counter) (t : Turn)
-    → ((q : List ℕ) (d : ℕ) → unwrap_or x.next 200 ≡ next_after q d k → Leads q (For d n) k held t) → Leads p x.line k held t
-known_leads p k x known c n is held t leads = subst (λ l. Leads p l k held t) (sym is) (leads p c (known.next c n is))
 
 -- ---- the last line of a call
 

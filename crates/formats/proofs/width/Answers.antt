@@ -1,12 +1,9 @@
 -- `formats::width` meets its contract. The invariant of its loop: n digits are counted, and `rest` is what stands before them. The measure is `rest`.
 -- Assumes nothing.
-use Rattle.formats.proofs.Decimals.{counted_none, counted_on, counted_all}
+use Rattle.formats.proofs.Decimals.{counted_on, counted_all}
 use native.Mathlib.Omega.{arith}
 use borrow.Author.Rules.{rules}
 use Rattle.formats.proofs.width.Goals as goal
-
-pub loop-rest-init : goal.loop-rest-init
-loop-rest-init c = counted_none _ (search rules)
 
 pub loop-rest-preserved : goal.loop-rest-preserved
 loop-rest-preserved c = counted_on _ _ _ c.loop-rest.invariant (search rules)

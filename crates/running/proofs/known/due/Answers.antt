@@ -6,23 +6,9 @@ use Rattle.std.specs.Option.{is_some}
 use Rattle.lines.specs.Line.{OneToFour}
 use Rattle.running.specs.declared.Ran.{Ran}
 use Rattle.running.specs.Due.{freed}
-use Rattle.running.proofs.Turns.{is_counted, named_few, due_left, due_goes_on, due_going, last_busy, last_further, none_left}
+use Rattle.running.proofs.Turns.{named_few, due_left, due_goes_on, due_going, last_busy, last_further, none_left}
 use Rattle.running.proofs.Freeing.{due_freed, last_never}
-use Rattle.running.proofs.Invariant.{goes_on, still}
 use Rattle.running.proofs.known.due.Goals as goal
-
-pub loop-n-init : goal.loop-n-init
-loop-n-init c = (goes_on _ c.requires.1 c.requires.2, refl, refl)
-
-pub last_known-requires : goal.last_known-requires
-last_known-requires c =
-    let known = c.requires.3.below _ c.loop-n.invariant.0.in_program in
-    (c.requires.0, c.loop-n.invariant.0.on, still c.loop-n.invariant.0, known.line)
-
-pub last_known-requires-2 : goal.last_known-requires-2
-last_known-requires-2 c =
-    let known = c.requires.3.below _ c.loop-n.invariant.0.in_program in
-    (c.requires.0, c.loop-n.invariant.0.on, still c.loop-n.invariant.0, known.line)
 
 pub returns-in_default : goal.returns-in_default
 returns-in_default c =
@@ -47,11 +33,6 @@ overflow_sub-c c = (few c).0
 
 pub bounds-run-c : goal.bounds-run-c
 bounds-run-c c = omega (arith, (few c).1)
-
-pub turn_known-t-requires : goal.turn_known-t-requires
-turn_known-t-requires c =
-    let known = c.requires.3.below _ c.loop-n.invariant.0.in_program in
-    (c.loop-n.invariant.0.for_line _, is_counted _ (ap is_some (sym c.counter_of.ensures.counter ∙ c.in-Some.is)), known.within)
 
 pub bounds-run-c-in-loop-n : goal.bounds-run-c-in-loop-n
 bounds-run-c-in-loop-n c =
