@@ -7,7 +7,7 @@ use mathlib.Core.Bool.{Bool, true, false, not, true≢false, false≢true}
 use mathlib.Core.List.{List, [], ◌∷◌, map}
 use lib.ListN.{length}
 use lib.Dec.{leb, ltb, eqb}
-use borrow.Author.Tests.{eqb-true, ltb-true, ltb-false, lt-ltb, le-ltb, lt-leb, le-leb, ne_eqb}
+use borrow.Author.Tests.{leb-false, eqb-true, ltb-true, ltb-false, lt-ltb, le-ltb, lt-leb, ne_eqb}
 use Rattle.std.specs.Prelude.{if◌then◌else◌}
 use Rattle.formats.specs.Checks.{all}
 use Rattle.formats.specs.Digits.{number_after, number}
@@ -90,14 +90,7 @@ digit_below : (b x : ℕ) → ltb x b ≡ true → leb b x ≡ false
 digit_below b x e = lt-leb b x (ltb-true x b e)
 
 other_above : (b x : ℕ) → leb b x ≡ false → ltb x b ≡ true
-other_above b x e = lt-ltb x b (leb_below b x e)
-  where
-    leb_below : (b x : ℕ) → leb b x ≡ false → x < b
-    leb_below b x e = go (ltb x b) refl
-      where
-        go : (t : Bool) → ltb x b ≡ t → x < b
-        go true h = ltb-true x b h
-        go false h = absurd (true≢false (sym (le-leb b x (ltb-false x b h)) ∙ e))
+other_above b x e = lt-ltb x b (leb-false b x e)
 
 -- ---- words
 
