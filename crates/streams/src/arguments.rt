@@ -3,7 +3,6 @@ ghost use Rattle.std.specs.Prelude.{MatchOption};
 ghost use Rattle.io.specs.Counts.{IsPrefixLen};
 
 use crate::say;
-use formats::Written;
 use std::env::{Env, FillError};
 
 // No argument is longer: Linux takes at most 131,072 bytes, with the 0 that ends it.
@@ -82,11 +81,9 @@ pub fn number(rt: &HostRuntime, i: usize, otherwise: u64, usage: &[u8]) -> Optio
     let Some(n) = word(rt, i, &mut digits) else {
         return Some(otherwise);
     };
-    match formats::decimal_in(&digits[..n]) {
-        Written::Is(v) => Some(v),
-        Written::No => {
-            wrong(rt, b"no number: '", i, usage);
-            None
-        }
+    let written = formats::decimal_in(&digits[..n]);
+    if written.is_none() {
+        wrong(rt, b"no number: '", i, usage);
     }
+    written
 }

@@ -191,6 +191,7 @@ impl Input {
         ensures counts { IfOk result (λ n. IsPrefixLen n buffer.new) }
     {
         let mut n: usize = 0;
+        // Kept: a turn goes on by as many bytes as a read gave, which no `for` counts.
         while n < buffer.len() {
             let more = self.read_once(&mut buffer[n..])?;
             if more == 0 {

@@ -8,6 +8,7 @@ ghost use Rattle.formats.specs.Digits.{shown, decimal, error_text};
 ghost use Rattle.io.specs.Counts.{IsPrefixLen};
 ghost use Rattle.streams.specs.Gathering.{nothing_gathered, more, Puts, Passes, Follows};
 
+use formats::Numbered;
 use std::io::{Error, Write};
 use std::marker::Model;
 
@@ -197,10 +198,10 @@ impl<const N: usize> Output<N> {
         self.put_ended(line, n, end);
     }
 
-    // A refusal is gathered: E, its number in three digits, and the byte that stands behind it.
-    pub fn put_error(&mut self, e: u8, end: u8)
-        ensures puts { Puts N self.old (error_text e ++ (end ∷ [])) self.new }
-        ensures follows { Follows N self.old (error_text e ++ (end ∷ [])) self.new }
+    // An error or a refusal is gathered: E, its number in three digits, and the byte that stands behind it.
+    pub fn put_error<E: Numbered>(&mut self, e: E, end: u8)
+        ensures puts { Puts N self.old (error_text (E.number_of e) ++ (end ∷ [])) self.new }
+        ensures follows { Follows N self.old (error_text (E.number_of e) ++ (end ∷ [])) self.new }
     {
         let mut line = [0u8; 21];
         let n = formats::put_error(&mut line, 0, e);
