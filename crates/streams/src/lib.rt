@@ -71,9 +71,10 @@ impl<const N: usize> Output<N> {
         }
     }
 
-    // No write has failed.
+    // No write has failed. No more is gathered than the block has room for.
     pub fn is_open(&self) -> bool
         ensures is { result ≡ self.now.open }
+        ensures within { length self.now.waits ≤ N }
     {
         self.open
     }
