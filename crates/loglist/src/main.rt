@@ -21,5 +21,5 @@ fn main(rt: HostRuntime) {
         return;
     };
     let length = reader::text::list(&log[..n], &mut text);
-    let _ = streams::write_whole(&rt, streams::first(&text, length));
+    streams::write_whole(&rt, streams::first(&text, length));
 }
