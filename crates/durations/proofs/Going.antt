@@ -35,22 +35,23 @@ module _ {size : ℕ} where
       ends = λ _. (refl, refl);
     }
 
-  -- ---- turns one after the other
+-- ---- turns one after the other
 
-  -- so many turns were made, and there may be more
-  pub record Going (n : ℕ) (o : Waiting) (total : ℕ) : Type 0 where
-    pub pieces : List (List ℕ)
-    pub ran : Ran size pieces total o
-    pub sum : total ≡ capped_total (grand_total pieces)
-    pub many : length pieces ≡ n
+-- so many turns were made, and there may be more
+pub record Going (size n : ℕ) (o : Waiting) (total : ℕ) : Type 0 where
+  pub pieces : List (List ℕ)
+  pub ran : Ran size pieces total o
+  pub sum : total ≡ capped_total (grand_total pieces)
+  pub many : length pieces ≡ n
 
+module _ {size : ℕ} where
   -- none was made
-  pub going_none : {o : Waiting} {total : ℕ} → o ≡ nothing_gathered → total ≡ 0 → Going 0 o total
+  pub going_none : {o : Waiting} {total : ℕ} → o ≡ nothing_gathered → total ≡ 0 → Going size 0 o total
   going_none new zero = record { pieces = []; ran = rw (new, zero) begun; sum = zero ∙ sym none_kept; many = refl }
 
-  module _ {n : ℕ} {o o' : Waiting} {before after : ℕ} {on : Bool} (g : Going n o before) (t : Turns size o before on o' after) where
+  module _ {n : ℕ} {o o' : Waiting} {before after : ℕ} {on : Bool} (g : Going size n o before) (t : Turns size o before on o' after) where
     -- one turn more
-    pub going_on : on ≡ true → Going (n + 1) o' after
+    pub going_on : on ≡ true → Going size (n + 1) o' after
     going_on yet =
         let (p, some, tells) = t.tells yet in
         record {
@@ -74,7 +75,7 @@ module _ {size : ℕ} where
         }
 
   -- so many as no input has
-  pub going_over : {n : ℕ} {o : Waiting} {total : ℕ} → Going n o total → 18446744073709551615 ≤ n → Ends size true o total
+  pub going_over : {n : ℕ} {o : Waiting} {total : ℕ} → Going size n o total → 18446744073709551615 ≤ n → Ends size true o total
   going_over {o = o} g le = record {
     pieces = g.pieces;
     last = o;

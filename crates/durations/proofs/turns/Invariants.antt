@@ -4,4 +4,4 @@ use Rattle.durations.proofs.Going.{Going}
 use Rattle.durations.proofs.turns.Given as goal
 
 abbrev pub invariant-loop-turn : goal.invariant-loop-turn
-invariant-loop-turn l = Going {size = 4096} l._turn l.output l.total
+invariant-loop-turn l = Going 4096 l._turn l.output l.total
