@@ -10,9 +10,7 @@ use Rattle.controller.specs.Controller.{Areas, areas, fresh}
 use Rattle.controller.specs.Refusals.{Call, power_on, byte, tick, press, emptying}
 use Rattle.controller.specs.Calls.{After, call}
 use Rattle.calls.specs.declared.SwitchBox.{SwitchBox}
-use Rattle.streams.specs.declared.Output.{Output}
-use Rattle.streams.specs.Gathering.{gathered, waits_after}
-use Rattle.console.specs.declared.Next.{Next}
+use Rattle.streams.specs.Gathering.{Waiting, nothing_gathered, waits_after}
 
 -- ---- which call a byte of input is
 
@@ -76,50 +74,50 @@ unfoldable pub waits_after_all : ℕ → List ℕ → List (List ℕ) → List �
 waits_after_all size waited [] = waited
 waits_after_all size waited (reply ∷ more) = waits_after_all size (waits_after size waited reply) more
 
--- "It prints the replies and nothing else": what calls do to what is held and to the output in its block; no output that failed is open again, and none
--- fails as long as all the replies fit behind what waits
-pub record Does (ks : List Call) (h : Held) (o : Output) (block : List ℕ) (h' : Held) (o' : Output) (block' : List ℕ) : Type 0 where
+-- "It prints the replies and nothing else": what calls do to what is held and to the output, whose block has a size; no output that failed is open again,
+-- and none fails as long as all the replies fit behind what waits
+pub record Does (size : ℕ) (ks : List Call) (h : Held) (o : Waiting) (h' : Held) (o' : Waiting) : Type 0 where
   pub held : h' ≡ held_after ks h
-  pub waits : gathered o' block' ≡ waits_after_all (length block) (gathered o block) (replies ks h)
+  pub waits : o'.waits ≡ waits_after_all size o.waits (replies ks h)
   pub failed : o'.open ≡ true → o.open ≡ true
-  pub stays : length (gathered o block) + length (flatten (replies ks h)) ≤ length block → o'.open ≡ o.open
+  pub stays : length o.waits + length (flatten (replies ks h)) ≤ size → o'.open ≡ o.open
 
--- what one call does; there is no more to do only where the output failed
-pub record Takes (k : Call) (h : Held) (o : Output) (block : List ℕ) (r : Next) (h' : Held) (block' : List ℕ) : Type 0 where
-  pub does : Does (k ∷ []) h o block h' r.output block'
-  pub ends : r.on ≡ false → r.output.open ≡ false
+-- what one call does, and whether there may be more to do; there is no more only where the output failed
+pub record Takes (size : ℕ) (k : Call) (h : Held) (o : Waiting) (more : Bool) (h' : Held) (o' : Waiting) : Type 0 where
+  pub does : Does size (k ∷ []) h o h' o'
+  pub ends : more ≡ false → o'.open ≡ false
 
 -- ---- the bytes that came
 
 -- what the bytes that came do: all of them, or those up to the one whose reply the output failed with
-pub record Feeds (input : List ℕ) (h : Held) (o : Output) (block : List ℕ) (r : Next) (h' : Held) (block' : List ℕ) : Type 0 where
+pub record Feeds (size : ℕ) (input : List ℕ) (h : Held) (o : Waiting) (more : Bool) (h' : Held) (o' : Waiting) : Type 0 where
   pub fed : List ℕ
   pub left : List ℕ
   pub whole : fed ++ left ≡ input
-  pub does : Does (calls_of fed) h o block h' r.output block'
-  pub ends : r.on ≡ false → r.output.open ≡ false
-  pub all : r.on ≡ true → left ≡ []
+  pub does : Does size (calls_of fed) h o h' o'
+  pub ends : more ≡ false → o'.open ≡ false
+  pub all : more ≡ true → left ≡ []
 
--- what a read that gave n bytes, at the start of the buffer, does: they are fed. There may be more only where all of them were, and there was one; there
--- is no more only where there was none, which is the end of the input, or where the output failed
-pub record Hears (n : ℕ) (input : List ℕ) (h : Held) (o : Output) (block : List ℕ) (r : Next) (h' : Held) (block' : List ℕ) : Type 0 where
+-- what the bytes that a read gave do: they are fed. There may be more only where all of them were, and there was one; there is no more only where there
+-- was none, which is the end of the input, or where the output failed
+pub record Hears (size : ℕ) (input : List ℕ) (h : Held) (o : Waiting) (on : Bool) (h' : Held) (o' : Waiting) : Type 0 where
   pub fed : List ℕ
   pub left : List ℕ
-  pub whole : fed ++ left ≡ take n input
-  pub does : Does (calls_of fed) h o block h' r.output block'
-  pub more : r.on ≡ true → (left ≡ []) × (0 < length fed)
-  pub ends : r.on ≡ false → r.output.open ≡ true → n ≡ 0
+  pub whole : fed ++ left ≡ input
+  pub does : Does size (calls_of fed) h o h' o'
+  pub more : on ≡ true → (left ≡ []) × (0 < length fed)
+  pub ends : on ≡ false → o'.open ≡ true → input ≡ []
 
 -- what a turn does: what was gathered before has gone out, so that nothing waits of it, and then some bytes come; which, is in no contract, since what a
 -- read gives is in none. There may be more only where some came, and there is no more only where none came or the output failed
-pub record Turns (h : Held) (o : Output) (block : List ℕ) (r : Next) (h' : Held) (block' : List ℕ) : Type 0 where
-  pub empty : Output
-  pub gone : empty.used ≡ 0
+pub record Turns (size : ℕ) (h : Held) (o : Waiting) (on : Bool) (h' : Held) (o' : Waiting) : Type 0 where
+  pub empty : Waiting
+  pub gone : empty.waits ≡ []
   pub failed : empty.open ≡ true → o.open ≡ true
   pub fed : List ℕ
-  pub does : Does (calls_of fed) h empty block h' r.output block'
-  pub more : r.on ≡ true → 0 < length fed
-  pub ends : r.on ≡ false → r.output.open ≡ true → fed ≡ []
+  pub does : Does size (calls_of fed) h empty h' o'
+  pub more : on ≡ true → 0 < length fed
+  pub ends : on ≡ false → o'.open ≡ true → fed ≡ []
 
 -- ---- from the beginning
 
@@ -130,17 +128,17 @@ unpowered = record { controller = fresh 0; program = replicate program_size 0; s
 unfoldable pub begins : Held
 begins = held_by power_on unpowered (made power_on unpowered)
 
--- turns one after the other since, as long as there may be more: all that came, and what the last left of the box and its areas, of the output and its
--- block, and whether there may be more. Each goes on with what the one before it left; the first has an output of which nothing waits
-pub data Ran : List ℕ → Held → Output → List ℕ → Bool → Type 0 where
-  begun : (o : Output) (block : List ℕ) → o.used ≡ 0 → o.open ≡ true → Ran [] begins o block true
-  turned : {fed : List ℕ} {h h' : Held} {o : Output} {r : Next} {block block' : List ℕ}
-      → Ran fed h o block true → (t : Turns h o block r h' block') → Ran (fed ++ t.fed) h' r.output block' r.on
+-- turns one after the other since, as long as there may be more: all that came, and what the last left of the box and its areas and of the output, and
+-- whether there may be more. Each goes on with what the one before it left; the first has an output of which nothing waits
+pub data Ran (size : ℕ) : List ℕ → Held → Waiting → Bool → Type 0 where
+  begun : Ran size [] begins nothing_gathered true
+  turned : {fed : List ℕ} {h h' : Held} {o o' : Waiting} {on : Bool}
+      → Ran size fed h o true → (t : Turns size h o on h' o') → Ran size (fed ++ t.fed) h' o' on
 
 -- what they end with: the box and its areas are as the bytes that came left them. Either the last turn says that there is no more, or so many bytes came
 -- as no input has
-pub record Ends (r : Next) (h : Held) (block : List ℕ) : Type 0 where
+pub record Ends (size : ℕ) (on : Bool) (h : Held) (o : Waiting) : Type 0 where
   pub fed : List ℕ
-  pub ran : Ran fed h r.output block r.on
+  pub ran : Ran size fed h o on
   pub held : h ≡ held_after (calls_of fed) begins
-  pub last : r.on ≡ true → 18446744073709551615 ≤ length fed
+  pub last : on ≡ true → 18446744073709551615 ≤ length fed

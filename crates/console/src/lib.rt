@@ -4,234 +4,175 @@
 // went out, is in none, since the library's have none.
 #![tactic(auto)]
 
-ghost use Rattle.std.specs.Prelude.{true, ◌≡◌, ◌≤◌, length};
-ghost use Rattle.controller.specs.Invariant.{Invariant};
-ghost use Rattle.controller.specs.Refusals.{byte};
-ghost use Rattle.console.specs.Inputs.{holding, call_of, Takes, Feeds, Hears, Turns, Ends, begins};
+ghost use Rattle.std.specs.Prelude.{◌≡◌, [], ◌∷◌};
+ghost use Rattle.controller.specs.Refusals.{tick, press, byte};
+ghost use Rattle.streams.specs.Gathering.{nothing_gathered};
+ghost use Rattle.console.specs.Inputs.{made, held_by, reply_of, Does, call_of, Takes, Feeds, Hears, Turns, Ends, begins};
 
-use calls::{Returned, SwitchBox};
+use calls::SwitchBox;
+use std::marker::Model;
 use streams::input::Input;
 use streams::{Output, arguments};
 
-// The box and its output after some input, and whether there may be more.
-#[derive(Clone, Copy)]
-pub struct Next {
-    pub held: SwitchBox,
-    pub output: Output,
-    pub on: bool,
+// How many bytes of replies are gathered before they go out.
+const BLOCK: usize = 4096;
+
+// The box, and the areas that it is lent again and again.
+#[derive(Drop)]
+pub struct Bench {
+    held: SwitchBox,
+    program: [u8; lines::PROGRAM],
+    saved: [u8; lines::PROGRAM],
+    log: [u8; boxlog::LEAST_AREA],
 }
 
-// A byte to the wire, and its reply.
-fn sent(
-    b: SwitchBox,
-    output: Output,
-    x: u8,
-    program: &mut [u8],
-    saved: &mut [u8],
-    log: &mut [u8],
-    block: &mut [u8],
-) -> Next
-    requires { Invariant b.controller }
-    ensures kept { Invariant result.held.controller }
-    ensures takes { Takes (byte x) (holding b program.old saved.old log.old) output
-        block.old result (holding result.held program.new saved.new log.new)
-        block.new }
-{
-    let mut reply = [0u8; 16];
-    let a = b.byte(x, program, saved, log, &mut reply);
-    let held = a.next;
-    let output = output.put_first(block, &reply, a.written);
-    let on = output.open;
-    Next { held, output, on }
+impl Model for Bench {
+    ghost use Rattle.controller.specs.Invariant.{Invariant};
+    ghost use Rattle.console.specs.Inputs.{Held, holding};
+
+    ghost Value = { Held };
+
+    ghost view = { λ h. holding h.held h.program h.saved h.log };
+
+    ghost invariant = { λ h. Invariant h.held.controller };
 }
 
-// After a call that has no reply.
-fn silent(a: Returned, output: Output) -> Next
-    ensures next { (result.held ≡ a.next) × (result.output ≡ output) × (result.on ≡ true) }
-{
-    let held = a.next;
-    Next {
-        held,
-        output,
-        on: true,
-    }
-}
-
-// One byte of input.
-fn one(
-    b: SwitchBox,
-    output: Output,
-    x: u8,
-    program: &mut [u8],
-    saved: &mut [u8],
-    log: &mut [u8],
-    block: &mut [u8],
-) -> Next
-    requires { Invariant b.controller }
-    ensures kept { Invariant result.held.controller }
-    ensures takes { Takes (call_of x) (holding b program.old saved.old log.old) output
-        block.old result (holding result.held program.new saved.new log.new)
-        block.new }
-{
-    if x == 1 {
-        return silent(b.tick(program, log), output);
-    }
-    if x == 2 {
-        return silent(b.press(1, program, log), output);
-    }
-    if x == 3 {
-        return silent(b.press(2, program, log), output);
-    }
-    sent(b, output, x, program, saved, log, block)
-}
-
-// The bytes of input that have come, one after the other, as long as the output takes the replies.
-fn feed(
-    b: SwitchBox,
-    output: Output,
-    input: &[u8],
-    program: &mut [u8],
-    saved: &mut [u8],
-    log: &mut [u8],
-    block: &mut [u8],
-) -> Next
-    requires { Invariant b.controller }
-    ensures kept { Invariant result.held.controller }
-    ensures feeds { Feeds input.now (holding b program.old saved.old log.old) output
-        block.old result (holding result.held program.new saved.new log.new)
-        block.new }
-{
-    let mut s = b;
-    let mut o = output;
-    let mut i: usize = 0;
-    while i < input.len() {
-        let n = one(s, o, input[i], program, saved, log, block);
-        if !n.on {
-            return n;
+impl Bench {
+    // A box with an all-zero saved copy and the smallest log, after its power-on.
+    fn power_on() -> Bench
+        ensures begins { result ≡ begins }
+    {
+        let mut program = [0u8; lines::PROGRAM];
+        let saved = [0u8; lines::PROGRAM];
+        let log = [0u8; boxlog::LEAST_AREA];
+        let a = SwitchBox::power_on(&mut program, &saved, &log);
+        let held = a.next;
+        Bench {
+            held,
+            program,
+            saved,
+            log,
         }
-        s = n.held;
-        o = n.output;
-        i += 1;
     }
-    Next {
-        held: s,
-        output: o,
-        on: true,
-    }
-}
 
-// What a read gave is fed to the box: the first n bytes of the buffer. None are the end of the input.
-// It stands apart from the read, whose bytes no contract names, so that its own can name them.
-fn heard(
-    b: SwitchBox,
-    output: Output,
-    input: &[u8],
-    n: usize,
-    program: &mut [u8],
-    saved: &mut [u8],
-    log: &mut [u8],
-    block: &mut [u8],
-) -> Next
-    requires { Invariant b.controller × (n ≤ length input.now) }
-    ensures kept { Invariant result.held.controller }
-    ensures hears { Hears n input.now (holding b program.old saved.old log.old) output
-        block.old result (holding result.held program.new saved.new log.new)
-        block.new }
-{
-    if n == 0 {
-        return Next {
-            held: b,
-            output,
-            on: false,
-        };
+    // A tick.
+    fn tick(&mut self)
+        ensures held { self.new ≡ held_by tick self.old (made tick self.old) }
+        ensures silent { reply_of (made tick self.old) ≡ [] }
+    {
+        let Bench {
+            held,
+            program,
+            log,
+            ..
+        } = self;
+        let a = held.tick(program, log);
+        *held = a.next;
     }
-    feed(b, output, &input[..n], program, saved, log, block)
-}
 
-// What is gathered goes out, input is read once, and what came is fed to the box.
-fn turn(
-    b: SwitchBox,
-    input: &Input,
-    output: Output,
-    program: &mut [u8],
-    saved: &mut [u8],
-    log: &mut [u8],
-    block: &mut [u8],
-) -> Next
-    requires { Invariant b.controller }
-    ensures kept { Invariant result.held.controller }
-    ensures turns { Turns (holding b program.old saved.old log.old) output
-        block.old result (holding result.held program.new saved.new log.new)
-        block.new }
-{
-    let mut bytes = [0u8; 4096];
-    let empty = output.flushed(block);
-    if !empty.open {
-        return Next {
-            held: b,
-            output: empty,
-            on: false,
-        };
+    // A press of button n.
+    fn press(&mut self, n: u32)
+        ensures held { self.new ≡ held_by (press n) self.old (made (press n) self.old) }
+        ensures silent { reply_of (made (press n) self.old) ≡ [] }
+    {
+        let Bench {
+            held,
+            program,
+            log,
+            ..
+        } = self;
+        let a = held.press(n, program, log);
+        *held = a.next;
     }
-    let n = input.read_some(&mut bytes);
-    heard(b, empty, &bytes, n, program, saved, log, block)
-}
 
-// Input to its end. A proved loop has to end, so it counts its turns down, from a number that no run uses up.
-fn turns(
-    rt: &HostRuntime,
-    b: SwitchBox,
-    input: Input,
-    program: &mut [u8],
-    saved: &mut [u8],
-    log: &mut [u8],
-    block: &mut [u8],
-) -> Next
-    requires { holding b program.old saved.old log.old ≡ begins }
-    ensures ends { Ends result (holding result.held program.new saved.new log.new) block.new }
-{
-    let mut s = b;
-    let mut o = Output::new(rt);
-    let mut left = u64::MAX;
-    while left > 0 {
-        let n = turn(s, &input, o, program, saved, log, block);
-        if !n.on {
-            return n;
+    // A byte to the wire, and its reply.
+    fn byte(&mut self, x: u8, output: &mut Output<BLOCK>)
+        ensures does { Does BLOCK (byte x ∷ []) self.old output.old self.new output.new }
+    {
+        let mut reply = [0u8; 16];
+        let Bench {
+            held,
+            program,
+            saved,
+            log,
+        } = self;
+        let a = held.byte(x, program, saved, log, &mut reply);
+        *held = a.next;
+        output.put_first(&reply, a.written);
+    }
+
+    // One byte of input. Here and below, the answer is whether there may be more.
+    fn take(&mut self, x: u8, output: &mut Output<BLOCK>) -> bool
+        ensures takes { Takes BLOCK (call_of x) self.old output.old result self.new output.new }
+    {
+        match x {
+            1 => self.tick(),
+            2 => self.press(1),
+            3 => self.press(2),
+            _ => self.byte(x, output),
         }
-        s = n.held;
-        o = n.output;
-        left -= 1;
+        output.is_open()
     }
-    Next {
-        held: s,
-        output: o,
-        on: true,
+
+    // The bytes of input that have come, one after the other, as long as the output takes the replies.
+    fn feed(&mut self, input: &[u8], output: &mut Output<BLOCK>) -> bool
+        ensures feeds { Feeds BLOCK input.now self.old output.old result self.new output.new }
+    {
+        for x in input {
+            if !self.take(*x, output) {
+                return false;
+            }
+        }
+        true
+    }
+
+    // What a read gave is fed to the box. No byte is the end of the input.
+    // It stands apart from the read, whose bytes no contract names, so that its own can name them.
+    fn hear(&mut self, input: &[u8], output: &mut Output<BLOCK>) -> bool
+        ensures hears { Hears BLOCK input.now self.old output.old result self.new output.new }
+    {
+        if input.is_empty() {
+            return false;
+        }
+        self.feed(input, output)
+    }
+
+    // What is gathered goes out, input is read once, and what came is fed to the box. A read that failed is taken as the end of the input.
+    fn turn(&mut self, input: &Input, output: &mut Output<BLOCK>) -> bool
+        ensures turns { Turns BLOCK self.old output.old result self.new output.new }
+    {
+        let mut bytes = [0u8; 4096];
+        output.flush();
+        if !output.is_open() {
+            return false;
+        }
+        match input.read_once(&mut bytes) {
+            Ok(n) => self.hear(&bytes[..n], output),
+            Err(_) => false,
+        }
+    }
+
+    // Input to its end. A proved loop has to end, and no run uses up so many turns.
+    fn turns(&mut self, input: &Input, output: &mut Output<BLOCK>) -> bool
+        requires { (self.old ≡ begins) × (output.old ≡ nothing_gathered) }
+        ensures ends { Ends BLOCK result self.new output.new }
+    {
+        for _turn in 0..u64::MAX {
+            if !self.turn(input, output) {
+                return false;
+            }
+        }
+        true
     }
 }
 
-// A box with an all-zero saved copy and the smallest log, from power-on to the end of the input: of standard input, or of the file that an
-// argument names.
+// A box from power-on to the end of the input: of standard input, or of the file that an argument names.
 pub fn run(rt: &HostRuntime, usage: &[u8]) {
-    let mut program = [0u8; lines::PROGRAM];
-    let mut saved = [0u8; lines::PROGRAM];
-    let mut log = [0u8; boxlog::LEAST_AREA];
-    let mut block = [0u8; 4096];
     if !arguments::fit(rt, 1, 1, usage) {
         return;
     }
-    let input = Input::from(rt, 1);
-    if input.failed {
+    let Ok(input) = Input::from(rt, 1) else {
         return;
-    }
-    let a = SwitchBox::power_on(&mut program, &saved, &log);
-    let held = a.next;
-    turns(
-        rt,
-        held,
-        input,
-        &mut program,
-        &mut saved,
-        &mut log,
-        &mut block,
-    );
+    };
+    let _ = Bench::power_on().turns(&input, &mut Output::new(rt));
 }

@@ -3,117 +3,84 @@
 // What is told of a program is in contracts, by specs/Telling.antt; which bytes were read, and which went out, is in none, since the library's have none.
 #![tactic(auto)]
 
-ghost use Rattle.streams.specs.Gathering.{Puts};
-ghost use Rattle.durations.specs.Telling.{line_of, Tells, Turns, Ends, TellsTotal};
+ghost use Rattle.std.specs.Prelude.{Bool};
+ghost use Rattle.streams.specs.Gathering.{nothing_gathered, Puts};
+ghost use Rattle.formats.specs.Numbers.{res_of};
+ghost use Rattle.duration.specs.Refusals.{number_of};
+ghost use Rattle.durations.specs.Telling.{line_of, Tells, may_go_on, Turns, Ends, TellsTotal};
+ghost use Rattle.std.specs.Prelude.{◌≡◌};
 
-use duration::Answer;
-use streams::input::Input;
+use duration::Refusal;
+use streams::input::{Failed, Input};
 use streams::{Output, arguments};
 
-// The output and the total after a program.
-#[derive(Clone, Copy)]
-struct Tally {
-    output: Output,
-    total: u64,
-}
-
-// The same, what is left of the input, and whether there may be another program.
-#[derive(Drop)]
-struct Progress {
-    input: Input,
-    output: Output,
-    total: u64,
-    on: bool,
-}
+// How many bytes are gathered before they go out.
+const BLOCK: usize = 4096;
 
 // An answer as a line: the number, or E and three digits.
-fn put_answer(output: Output, block: &mut [u8], answer: Answer) -> Output
-    ensures line { Puts output block.old (line_of answer) result block.new }
+fn put_answer(output: &mut Output<BLOCK>, answer: Result<u64, Refusal>)
+    ensures line { Puts BLOCK output.old (line_of (res_of number_of answer)) output.new }
 {
     match answer {
-        Answer::Takes(n) => output.put_number(block, n, 10),
-        Answer::Refused(e) => output.put_error(block, e, 10),
+        Ok(n) => output.put_number(n, b'\n'),
+        Err(e) => output.put_error(e, b'\n'),
     }
 }
 
 // The line of a program, or of a last piece that is none, and the total with it.
-fn told(output: Output, block: &mut [u8], total: u64, program: &[u8]) -> Tally
-    ensures tells { Tells output block.old total program.now result.output result.total
-        block.new }
+fn tell(output: &mut Output<BLOCK>, total: &mut u64, program: &[u8])
+    ensures tells { Tells BLOCK output.old total.old program.now output.new total.new }
 {
     let answer = duration::report(program);
-    let output = put_answer(output, block, answer);
-    let total = duration::total_with(total, answer);
-    Tally { output, total }
+    put_answer(output, answer);
+    *total = duration::total_with(*total, answer);
 }
 
-// The next program, as far as there is one. None is the end of the input, or a failure.
-fn turn(input: Input, output: Output, block: &mut [u8], total: u64) -> Progress
-    ensures turns { Turns output block.old total result block.new }
+// The next program, as far as there is one, and whether there was one.
+fn turn(input: &mut Input, output: &mut Output<BLOCK>, total: &mut u64) -> Result<bool, Failed>
+    ensures turns { Turns BLOCK output.old total.old (may_go_on result) output.new total.new }
 {
     let mut program = [0u8; lines::PROGRAM];
-    let p = input.piece(output, block, &mut program);
-    let input = p.input;
-    let output = p.output;
-    let n = p.count;
+    let n = input.piece(output, &mut program)?;
     if n == 0 {
-        return Progress {
-            input,
-            output,
-            total,
-            on: false,
-        };
+        return Ok(false);
     }
-    let a = told(output, block, total, &program[..n]);
-    let output = a.output;
-    Progress {
-        input,
-        output,
-        total: a.total,
-        on: true,
-    }
+    tell(output, total, &program[..n]);
+    Ok(true)
 }
 
-// Input to its end. A proved loop has to end, so it counts its turns down, from a number that no run uses up.
-fn turns(rt: &HostRuntime, input: Input, block: &mut [u8]) -> Progress
-    ensures ends { Ends result block.new }
+// Input to its end. A proved loop has to end, and no run uses up so many turns.
+fn turns(input: &mut Input, output: &mut Output<BLOCK>, total: &mut u64) -> Result<bool, Failed>
+    requires { (output.old ≡ nothing_gathered) × (total.old ≡ 0) }
+    ensures ends { Ends BLOCK (may_go_on result) output.new total.new }
 {
-    let output = Output::new(rt);
-    let mut n = Progress {
-        input,
-        output,
-        total: 0,
-        on: true,
-    };
-    let mut left = u64::MAX;
-    while left > 0 {
-        n = turn(n.input, n.output, block, n.total);
-        if !n.on {
-            return n;
+    for _turn in 0..u64::MAX {
+        if !turn(input, output, total)? {
+            return Ok(false);
         }
-        left -= 1;
     }
-    n
+    Ok(true)
 }
 
 // The grand total as the last line.
-fn told_total(n: Progress, block: &mut [u8]) -> Output
-    requires { Ends n block.old }
-    ensures total { TellsTotal n block.old result block.new }
+fn tell_total(output: &mut Output<BLOCK>, total: u64)
+    requires { (on : Bool) × Ends BLOCK on output.old total }
+    ensures total { TellsTotal BLOCK output.old total output.new }
 {
-    put_answer(n.output, block, duration::total_told(n.total))
+    put_answer(output, duration::total_told(total));
 }
 
 fn main(rt: HostRuntime) {
-    let mut block = [0u8; 4096];
     if !arguments::fit(&rt, 1, usize::MAX, b"durations [FILE...]") {
         return;
     }
-    let n = turns(&rt, Input::from(&rt, 1), &mut block);
-    if n.input.failed {
-        n.output.flushed(&block);
+    let Ok(mut input) = Input::from(&rt, 1) else {
         return;
+    };
+    let mut output = Output::new(&rt);
+    let mut total = 0;
+    if turns(&mut input, &mut output, &mut total).is_ok() {
+        tell_total(&mut output, total);
     }
-    let last = told_total(n, &mut block);
-    last.flushed(&block);
+    output.flush();
 }

@@ -14,12 +14,12 @@ fn main(rt: HostRuntime) {
     if !arguments::fit(&rt, 1, 1, b"loglist [FILE]") {
         return;
     }
-    let input = Input::from(&rt, 1);
-    let p = input.piece(Output::new(&rt), &[], &mut log);
-    if p.input.failed {
+    let Ok(mut input) = Input::from(&rt, 1) else {
         return;
-    }
-    let n = p.count;
+    };
+    let Ok(n) = input.piece(&mut Output::<0>::new(&rt), &mut log) else {
+        return;
+    };
     let length = reader::text::list(&log[..n], &mut text);
-    streams::write_first(&rt, &text, length);
+    streams::write_whole(&rt, streams::first(&text, length));
 }

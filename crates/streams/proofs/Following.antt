@@ -6,28 +6,24 @@ use Prim.Native.Nat.{ℕ, ◌+◌, ◌≤◌}
 use native.Mathlib.Omega.{arith}
 use lib.ListN.{length, length-append}
 use borrow.Author.Tests.{le-leb}
-use Rattle.streams.specs.declared.Output.{Output}
-use Rattle.streams.specs.Gathering.{gathered, waits_after, Puts, Follows}
+use Rattle.streams.specs.Gathering.{Waiting, waits_after, Puts, Follows}
 
 -- one put
-pub puts_follows : {o r : Output} {block bytes block' : List ℕ} → Puts o block bytes r block' → length block' ≡ length block → Follows o block bytes r block'
+pub puts_follows : {size : ℕ} {o r : Waiting} {bytes : List ℕ} → Puts size o bytes r → Follows size o bytes r
 unfolding waits_after
-puts_follows {o} {r} {block} {bytes} {block'} p size =
-    record { size = size; waits = λ fits. p.waits ∙ rw (le-leb (length (gathered o block) + length bytes) (length block) fits); stays = p.stays }
+puts_follows {size} {o} {r} {bytes} p =
+    record { waits = λ fits. p.waits ∙ rw (le-leb (length o.waits + length bytes) size fits); stays = p.stays }
 
 -- one behind the other
-pub follows_more : {o m r : Output} {block xs ys between block' : List ℕ} → Follows o block xs m between → Follows m between ys r block'
-    → Follows o block (xs ++ ys) r block'
-follows_more {o} {m} {r} {block} {xs} {ys} {between} {block'} f g =
+pub follows_more : {size : ℕ} {o m r : Waiting} {xs ys : List ℕ} → Follows size o xs m → Follows size m ys r → Follows size o (xs ++ ys) r
+follows_more {size} {o} {m} {r} {xs} {ys} f g =
     record {
-      size = g.size ∙ f.size;
-      waits = λ fits. let first = f.waits (less fits) in g.waits (more fits) ∙ ap (λ w. w ++ ys) first ∙ append_assoc (gathered o block) xs ys;
+      waits = λ fits. let first = f.waits (less fits) in g.waits (more fits) ∙ ap (λ w. w ++ ys) first ∙ append_assoc o.waits xs ys;
       stays = λ fits. g.stays (more fits) ∙ f.stays (less fits);
     }
   where
-    less : length (gathered o block) + length (xs ++ ys) ≤ length block → length (gathered o block) + length xs ≤ length block
+    less : length o.waits + length (xs ++ ys) ≤ size → length o.waits + length xs ≤ size
     less fits = omega (arith, length-append xs ys)
 
-    more : length (gathered o block) + length (xs ++ ys) ≤ length block → length (gathered m between) + length ys ≤ length between
-    more fits =
-        let now = ap length (f.waits (less fits)) ∙ length-append (gathered o block) xs in omega (arith, length-append xs ys, f.size)
+    more : length o.waits + length (xs ++ ys) ≤ size → length m.waits + length ys ≤ size
+    more fits = let now = ap length (f.waits (less fits)) ∙ length-append o.waits xs in omega (arith, length-append xs ys)

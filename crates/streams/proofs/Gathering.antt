@@ -1,75 +1,58 @@
 -- What waits after bytes are put, in the three ways that `put` goes.
 -- Assumes nothing.
-use mathlib.Core.List.{List, [], ◌++◌, append-nil, append_assoc}
+use mathlib.Core.Bool.{true}
+use mathlib.Core.List.{List, [], ◌++◌, append-nil}
 use mathlib.Core.Logic.{◌⊎◌, inl, inr}
-use mathlib.Core.Path.{◌≡◌, refl, sym, ap, ap₂, ◌∙◌}
-use Prim.Native.Nat.{ℕ, ◌+◌, ◌-◌, ◌≤◌, ◌<◌}
+use mathlib.Core.Path.{◌≡◌, refl, ap, ◌∙◌}
+use Prim.Native.Nat.{ℕ, ◌+◌, ◌≤◌, ◌<◌}
 use native.Mathlib.Omega.{arith}
-use lib.ListN.{length, take, drop, length-take}
-use lib.Seq.{length-take-le, take-length, take_at, take-append-add}
+use lib.ListN.{length}
 use borrow.Author.Tests.{le-leb, lt-leb}
-use borrow.Rule.Slice.PartMut.{put_mid}
-use Rattle.streams.specs.declared.Output.{Output}
-use Rattle.streams.specs.Gathering.{waits_after, Passes}
+use Rattle.streams.specs.Gathering.{Waiting, waits_after, more, Puts, Passes}
 
--- the start of what was copied is the bytes
-pub copied : (bytes rest : List ℕ) → take (length bytes) (take (length bytes) bytes ++ rest) ≡ bytes
-copied bytes rest =
-    let e : take (length bytes) bytes ≡ bytes = take-length bytes in
-    take_at (take (length bytes) bytes) rest (length bytes) (ap length e) ∙ e
+-- the bytes follow
+pub puts_behind : (size : ℕ) (o : Waiting) (bytes : List ℕ) → length o.waits + length bytes ≤ size → Puts size o bytes (more o bytes)
+unfolding waits_after
+puts_behind size o bytes fits =
+    record { waits = rw (le-leb (length o.waits + length bytes) size fits); failed = λ e. e; stays = λ _. refl }
 
--- the first `at` bytes of the block wait
-module _ (block bytes : List ℕ) (used at : ℕ) (le : at ≤ length block) (same : take at block ≡ take used block) where
-  waited : length (take used block) ≡ at
-  waited = ap length (sym same) ∙ length-take-le at block le
+-- they wait alone
+pub puts_alone : (size : ℕ) (o m : Waiting) (bytes : List ℕ) → size < length o.waits + length bytes → length bytes ≤ size → m.waits ≡ []
+    → (m.open ≡ true → o.open ≡ true) → Puts size o bytes (more m bytes)
+unfolding waits_after
+puts_alone size o m bytes over fits none failed =
+    record {
+      waits = ap (λ w. w ++ bytes) none ∙ rw (lt-leb (length o.waits + length bytes) size over, le-leb (length bytes) size fits);
+      failed = failed;
+      stays = λ le. absurd (omega arith);
+    }
 
-  -- where they do not fit, they do not
-  pub too_long : length block - at < length bytes → length (take used block) + length bytes ≤ length block → ⊥
-  too_long more fits = omega (arith, waited, more, fits)
-
-  -- the bytes follow
-  pub follow : (part rest : List ℕ) → length bytes ≤ length block - at → part ≡ take (length bytes) bytes ++ rest
-      → take (at + length bytes) (put_mid at (length block - at) block part) ≡ waits_after (length block) (take used block) bytes
-  unfolding waits_after
-  follow part rest fits e =
-      let n : ℕ = length bytes in
-      let behind : List ℕ = drop (length block - at) (drop at block) in
-      let first = rw (length-take-le at block le) at (take-append-add (take at block) (part ++ behind) n) in
-      let then : take n (part ++ behind) ≡ bytes = rw (e, append_assoc) (copied bytes (rest ++ behind)) in
-      rw (le-leb (length (take used block) + n) (length block) (omega (arith, waited))) (first ∙ ap₂ (λ x y. x ++ y) same then)
-
-  -- they wait alone
-  pub alone : (block' rest : List ℕ) → length block - at < length bytes → length bytes ≤ length block → block' ≡ take (length bytes) bytes ++ rest
-      → take (length bytes) block' ≡ waits_after (length block) (take used block) bytes
-  unfolding waits_after
-  alone block' rest more fits e =
-      let full = lt-leb (length (take used block) + length bytes) (length block) (omega (arith, waited)) in
-      rw (full, le-leb (length bytes) (length block) fits, e) (copied bytes rest)
-
-  -- they went out too
-  pub pass : (block' : List ℕ) (n : ℕ) → n ≡ 0 → length block < length bytes → take n block' ≡ waits_after (length block) (take used block) bytes
-  unfolding waits_after
-  pass block' n e more =
-      let full = lt-leb (length (take used block) + length bytes) (length block) (omega (arith, waited)) in
-      rw (full, lt-leb (length bytes) (length block) more, e)
+-- they went out too
+pub puts_out : (size : ℕ) (o r : Waiting) (bytes : List ℕ) → size < length bytes → r.waits ≡ [] → (r.open ≡ true → o.open ≡ true) → Puts size o bytes r
+unfolding waits_after
+puts_out size o r bytes over none failed =
+    record {
+      waits = none ∙ rw (lt-leb (length o.waits + length bytes) size (omega arith), lt-leb (length bytes) size over);
+      failed = failed;
+      stays = λ le. absurd (omega arith);
+    }
 
 -- no bytes leave what waits
-pub nothing_waits : (used : ℕ) (block : List ℕ) → waits_after (length block) (take used block) [] ≡ take used block
+pub nothing_waits : (size : ℕ) (waited : List ℕ) → length waited ≤ size → waits_after size waited [] ≡ waited
 unfolding waits_after
-nothing_waits used block =
-    rw (le-leb (length (take used block) + 0) (length block) (omega (arith, length-take used block))) (append-nil (take used block))
+nothing_waits size waited fits = rw (le-leb (length waited + 0) size (omega arith)) (append-nil waited)
 
 -- ---- reading
 
 -- an output that is left alone
-pub passes_same : (o : Output) → Passes o o
+pub passes_same : (o : Waiting) → Passes o o
 passes_same o = (inl refl, λ e. e)
 
 -- one after the other
-pub passes_both : {o m r : Output} → Passes o m → Passes m r → Passes o r
+pub passes_both : {o m r : Waiting} → Passes o m → Passes m r → Passes o r
 passes_both {o} {m} {r} (first, was) (second, is) = (joined first second, λ e. was (is e))
   where
-    joined : (m ≡ o) ⊎ (m.used ≡ 0) → (r ≡ m) ⊎ (r.used ≡ 0) → (r ≡ o) ⊎ (r.used ≡ 0)
+    joined : (m ≡ o) ⊎ (m.waits ≡ []) → (r ≡ m) ⊎ (r.waits ≡ []) → (r ≡ o) ⊎ (r.waits ≡ [])
     joined f (inr z) = inr z
     joined (inl e) (inl e') = inl (e' ∙ e)
-    joined (inr z) (inl e') = inr (ap (λ x. x.used) e' ∙ z)
+    joined (inr z) (inl e') = inr (ap (λ x. x.waits) e' ∙ z)

@@ -1,4 +1,5 @@
 // The input of a program: the files that its arguments name, one after the other, or standard input where none is named.
+ghost use Rattle.std.specs.Prelude.{IfOk};
 ghost use Rattle.io.specs.Counts.{IsPrefixLen};
 ghost use Rattle.std.specs.Io.{ReadsAtMost};
 ghost use Rattle.streams.specs.Gathering.{Passes};
@@ -12,11 +13,11 @@ use std::os::unix::fs::FileTypeExt;
 // Where bytes come from.
 #[derive(Drop)]
 enum Source {
+    // nothing more can be read: a file could not be opened or read
+    Closed,
     Standard,
     // closed where it is dropped
     Named(File),
-    // a file that could not be opened
-    Unopened,
 }
 
 // What is read now.
@@ -25,31 +26,21 @@ pub struct Input {
     // what it reads by: the handle of `main`, which takes no bytes
     rt: HostRuntime,
     source: Source,
-    // the argument that names it; 0 for standard input
-    name: usize,
-    // the argument that names what comes after it
-    next: usize,
+    // the argument that names it; none for standard input
+    name: Option<usize>,
+    // the argument that names what comes after it, if one may
+    next: Option<usize>,
     // somebody may wait for an answer before more of it comes: so it is where it has no position, as a pipe or a terminal
     awaited: bool,
     // all of it was read
     ended: bool,
-    // it could not be opened or read, and this was told
-    pub failed: bool,
 }
 
-// What came: so many bytes, at the start of the buffer, and whether a read failed then.
-#[derive(Clone, Copy)]
-struct Got {
-    count: usize,
-    failed: bool,
-}
-
-// The next bytes, at the start of the buffer, and what they leave. None are the end of the last file, or something failed: the input or the output.
-#[derive(Drop)]
-pub struct Piece {
-    pub input: Input,
-    pub output: Output,
-    pub count: usize,
+// The input could not be opened or read, or the output not be written; this was told.
+#[derive(Clone, Copy, PartialEq, Eq, Debug)]
+pub enum Failed {
+    Input,
+    Output,
 }
 
 // ---- files
@@ -64,13 +55,11 @@ const PATH_MAX: usize = 4096;
 
 // A file that could not be opened or read, and why.
 fn tell(rt: &HostRuntime, what: &[u8], name: &[u8], error: Error) {
-    let mut line = [0u8; 8192];
-    let start = Output::new(rt);
-    let first = start.put(&mut line, what);
-    let second = first.put(&mut line, name);
-    let whole = second.put(&mut line, b"'");
-    let n = whole.held(&line);
-    fail(rt, &line[..n], error);
+    let mut line = Output::<8192>::new(rt);
+    line.put(what);
+    line.put(name);
+    line.put(b"'");
+    fail(rt, line.gathered(), error);
 }
 
 // The file of this name. The library takes a name as text, so a file whose name is not UTF-8 cannot be opened by it.
@@ -86,7 +75,7 @@ fn open(rt: &HostRuntime, name: &[u8]) -> Result<File, Error> {
 
 // Standard input, from where it stands. The library does not tell its position, only what it is: a file, a folder and a device for blocks have one.
 // Of anything else it is taken that somebody may wait, which costs at most more writes.
-fn standard(rt: &HostRuntime, next: usize) -> Input {
+fn standard(rt: &HostRuntime, next: Option<usize>) -> Input {
     let awaited = match fs::metadata(rt, "/dev/stdin") {
         Ok(found) => !found.is_file() && !found.is_dir() && !found.file_type().is_block_device(),
         Err(_) => true,
@@ -94,53 +83,38 @@ fn standard(rt: &HostRuntime, next: usize) -> Input {
     Input {
         rt: *rt,
         source: Source::Standard,
-        name: 0,
+        name: None,
         next,
         awaited,
         ended: false,
-        failed: false,
     }
 }
 
 // An open file.
-fn of(rt: &HostRuntime, mut file: File, name: usize, next: usize) -> Input {
+fn of(rt: &HostRuntime, mut file: File, name: usize, next: Option<usize>) -> Input {
     let awaited = file.seek(SeekFrom::Current(0)).is_err();
     Input {
         rt: *rt,
         source: Source::Named(file),
-        name,
+        name: Some(name),
         next,
         awaited,
         ended: false,
-        failed: false,
-    }
-}
-
-// What stands for a file that could not be opened.
-fn unopened(rt: &HostRuntime, name: usize, next: usize) -> Input {
-    Input {
-        rt: *rt,
-        source: Source::Unopened,
-        name,
-        next,
-        awaited: true,
-        ended: false,
-        failed: true,
     }
 }
 
 // The file that argument i names. `-` names standard input.
-fn opened(rt: &HostRuntime, i: usize, next: usize) -> Input {
+fn opened(rt: &HostRuntime, i: usize, next: Option<usize>) -> Result<Input, Failed> {
     let mut name = [0u8; PATH_MAX];
-    let n = arguments::word(rt, i, &mut name);
+    let n = arguments::word(rt, i, &mut name).unwrap_or(0);
     if n == 1 && name[0] == b'-' {
-        return standard(rt, next);
+        return Ok(standard(rt, next));
     }
     match open(rt, &name[..n]) {
-        Ok(file) => of(rt, file, i, next),
+        Ok(file) => Ok(of(rt, file, i, next)),
         Err(error) => {
             tell(rt, b"cannot open '", &name[..n], error);
-            unopened(rt, i, next)
+            Err(Failed::Input)
         }
     }
 }
@@ -151,6 +125,7 @@ impl Source {
         ensures counts { ReadsAtMost result buffer.new }
     {
         match self {
+            Source::Closed => Err(Error::from_raw_os_error(NOT_OPEN)),
             Source::Standard => {
                 let mut input = rt.stdin();
                 input.read(buffer)
@@ -159,196 +134,137 @@ impl Source {
                 let mut input = file;
                 input.read(buffer)
             }
-            Source::Unopened => Err(Error::from_raw_os_error(NOT_OPEN)),
         }
     }
 }
 
 impl Input {
     // The files that the arguments from number i on name; where there is none, standard input.
-    pub fn from(rt: &HostRuntime, i: usize) -> Input {
+    pub fn from(rt: &HostRuntime, i: usize) -> Result<Input, Failed> {
         if arguments::is_given(rt, i) {
-            return opened(rt, i, i.saturating_add(1));
+            return opened(rt, i, i.checked_add(1));
         }
-        standard(rt, i)
+        Ok(standard(rt, None))
     }
 
     // The file that argument i names, alone: none comes after it. It is for a program to which each file is one thing by itself.
-    pub fn file(rt: &HostRuntime, i: usize) -> Input {
-        opened(rt, i, usize::MAX)
+    pub fn file(rt: &HostRuntime, i: usize) -> Result<Input, Failed> {
+        opened(rt, i, None)
     }
 
-    // The file is closed. Standard input stays open.
-    pub fn closed(self) {
-        drop(self)
-    }
-
-    // Whether a file comes after this one: behind the highest number there is none.
-    fn has_next(&self) -> bool {
-        self.next < usize::MAX && arguments::is_given(&self.rt, self.next)
-    }
-
-    // The file after this one, which is closed.
-    fn following(self) -> Input {
-        if !self.has_next() {
-            return self;
+    // The argument that names the file after this one, where it is given.
+    fn following(&self) -> Option<usize> {
+        match self.next {
+            Some(i) if arguments::is_given(&self.rt, i) => Some(i),
+            _ => None,
         }
-        let rt = self.rt;
-        let i = self.next;
-        self.closed();
-        opened(&rt, i, i.saturating_add(1))
     }
 
     // ---- bytes
 
     // A read failed, which is told with the file's name.
     fn tell_read(&self, error: Error) {
-        if self.name == 0 {
+        let Some(i) = self.name else {
             fail(&self.rt, b"cannot read standard input", error);
             return;
-        }
+        };
         let mut name = [0u8; PATH_MAX];
-        let n = arguments::word(&self.rt, self.name, &mut name);
+        let n = arguments::word(&self.rt, i, &mut name).unwrap_or(0);
         tell(&self.rt, b"cannot read '", &name[..n], error);
     }
 
     // Input is read once, as much as there is.
-    fn read_once(&self, buffer: &mut [u8]) -> Got
-        ensures counts { IsPrefixLen result.count buffer.new }
+    pub fn read_once(&self, buffer: &mut [u8]) -> Result<usize, Failed>
+        ensures counts { IfOk result (λ n. IsPrefixLen n buffer.new) }
     {
         match self.source.read(&self.rt, buffer) {
-            Ok(count) => Got {
-                count,
-                failed: false,
-            },
+            Ok(n) => Ok(n),
             Err(error) => {
                 self.tell_read(error);
-                Got {
-                    count: 0,
-                    failed: true,
-                }
+                Err(Failed::Input)
             }
         }
-    }
-
-    // The same for a program that takes a read that failed as the end of its input.
-    pub fn read_some(&self, buffer: &mut [u8]) -> usize
-        ensures counts { IsPrefixLen result buffer.new }
-    {
-        let got = self.read_once(buffer);
-        got.count
     }
 
     // Input is read until the buffer is full, the file ends, or a read fails.
-    fn read_whole(&self, buffer: &mut [u8]) -> Got
-        ensures counts { IsPrefixLen result.count buffer.new }
+    fn read_whole(&self, buffer: &mut [u8]) -> Result<usize, Failed>
+        ensures counts { IfOk result (λ n. IsPrefixLen n buffer.new) }
     {
         let mut n: usize = 0;
+        // Kept: a turn goes on by as many bytes as a read gave, which no `for` counts.
         while n < buffer.len() {
-            let more = self.read_once(&mut buffer[n..]);
-            if more.failed {
-                return Got {
-                    count: 0,
-                    failed: true,
-                };
+            let more = self.read_once(&mut buffer[n..])?;
+            if more == 0 {
+                break;
             }
-            if more.count == 0 {
-                return Got {
-                    count: n,
-                    failed: false,
-                };
-            }
-            n += more.count;
+            n += more;
         }
-        Got {
-            count: n,
-            failed: false,
-        }
+        Ok(n)
     }
 
-    // After a read. Less than was asked for is the end of the file: nothing more is asked of a terminal where that was typed.
-    fn after(mut self, got: Got, asked: usize) -> Input {
-        self.ended = got.count < asked;
-        self.failed = got.failed;
-        self
-    }
-
-    // What is gathered goes out, where somebody may wait for it; then the buffer is filled, as far as this file goes.
-    fn filled(self, output: Output, block: &[u8], buffer: &mut [u8]) -> Piece
-        ensures counts { IsPrefixLen result.count buffer.new }
-        ensures passes { Passes output result.output }
+    // What is gathered goes out, where somebody may wait for it; then the buffer is filled, as far as this file goes. Less than was asked for is the
+    // end of the file: nothing more is asked of a terminal where that was typed.
+    fn fill<const N: usize>(
+        &mut self,
+        output: &mut Output<N>,
+        buffer: &mut [u8],
+    ) -> Result<usize, Failed>
+        ensures counts { IfOk result (λ n. IsPrefixLen n buffer.new) }
+        ensures passes { Passes output.old output.new }
     {
-        let output = output.passed(block, self.awaited);
-        if self.ended || self.failed || !output.open {
-            return Piece {
-                input: self,
-                output,
-                count: 0,
+        output.pass(self.awaited);
+        if !output.is_open() {
+            return Err(Failed::Output);
+        }
+        if self.ended {
+            return Ok(0);
+        }
+        let asked = buffer.len();
+        let n = self.read_whole(buffer)?;
+        self.ended = n < asked;
+        Ok(n)
+    }
+
+    // What is gathered goes out, since a file may wait to be opened; then this one is closed, and the file that argument i names is opened and read.
+    fn fill_next<const N: usize>(
+        &mut self,
+        i: usize,
+        output: &mut Output<N>,
+        buffer: &mut [u8],
+    ) -> Result<usize, Failed>
+        ensures counts { IfOk result (λ n. IsPrefixLen n buffer.new) }
+        ensures passes { Passes output.old output.new }
+    {
+        output.flush();
+        if !output.is_open() {
+            return Err(Failed::Output);
+        }
+        self.source = Source::Closed;
+        let rt = self.rt;
+        *self = opened(&rt, i, i.checked_add(1))?;
+        self.fill(output, buffer)
+    }
+
+    // The next bytes of the input, as many as the buffer takes, or fewer where a file ends; none are the end of the last file. What is gathered goes out
+    // before, where somebody may wait for it. There are no more files than numbers of arguments, so that many turns suffice.
+    pub fn piece<const N: usize>(
+        &mut self,
+        output: &mut Output<N>,
+        buffer: &mut [u8],
+    ) -> Result<usize, Failed>
+        ensures counts { IfOk result (λ n. IsPrefixLen n buffer.new) }
+        ensures passes { Passes output.old output.new }
+    {
+        let mut n = self.fill(output, buffer)?;
+        for _ in 0..usize::MAX {
+            if n > 0 {
+                return Ok(n);
+            }
+            let Some(i) = self.following() else {
+                return Ok(0);
             };
+            n = self.fill_next(i, output, buffer)?;
         }
-        let got = self.read_whole(buffer);
-        let count = got.count;
-        Piece {
-            input: self.after(got, buffer.len()),
-            output,
-            count,
-        }
-    }
-
-    // What is gathered goes out, since a file may wait to be opened; then the next file is opened and read.
-    fn read_next(self, output: Output, block: &[u8], buffer: &mut [u8]) -> Piece
-        ensures counts { IsPrefixLen result.count buffer.new }
-        ensures passes { Passes output result.output }
-    {
-        let output = output.flushed(block);
-        if !output.open {
-            return Piece {
-                input: self,
-                output,
-                count: 0,
-            };
-        }
-        let input = self.following();
-        input.filled(output, block, buffer)
-    }
-
-    // The same until a file gives a byte. There are no more files than numbers of arguments, so that many turns suffice.
-    fn read_on(self, output: Output, block: &[u8], buffer: &mut [u8]) -> Piece
-        ensures counts { IsPrefixLen result.count buffer.new }
-        ensures passes { Passes output result.output }
-    {
-        let mut p = self.read_next(output, block, buffer);
-        let mut left = usize::MAX;
-        while left > 0 {
-            if !p.is_over() {
-                return p;
-            }
-            p = p.input.read_next(p.output, block, buffer);
-            left -= 1;
-        }
-        p
-    }
-
-    // The next bytes of the input, as many as the buffer takes, or fewer where a file ends. What is gathered goes out before, where somebody
-    // may wait for it.
-    pub fn piece(self, output: Output, block: &[u8], buffer: &mut [u8]) -> Piece
-        ensures counts { IsPrefixLen result.count buffer.new }
-        ensures passes { Passes output result.output }
-    {
-        let p = self.filled(output, block, buffer);
-        if !p.is_over() {
-            return p;
-        }
-        p.input.read_on(p.output, block, buffer)
-    }
-}
-
-impl Piece {
-    // Whether the file is over, nothing failed, and another comes.
-    fn is_over(&self) -> bool {
-        if self.count > 0 || self.input.failed || !self.output.open {
-            return false;
-        }
-        self.input.has_next()
+        Ok(n)
     }
 }

@@ -1,35 +1,47 @@
 // What programs share: their arguments, the files that these name or standard input, and standard output.
-// Output is gathered in a block that the program lends. It goes out where the next bytes do not fit behind it, and where the program asks, as
-// before it waits for input.
+// Output is gathered in a block. It goes out where the next bytes do not fit behind it, and where the program asks, as before it waits for input.
 // Definitions: specs/Gathering.antt. Which bytes a read or a write moves, or an argument has, is in no contract, since the library's have none.
 #![tactic(auto)]
 
-ghost use Rattle.std.specs.Prelude.{true, [], ◌∷◌, ◌++◌, ◌≡◌, take};
+ghost use Rattle.std.specs.Prelude.{true, ℕ, ◌+◌, [], ◌∷◌, ◌++◌, ◌≡◌, ◌≤◌, ◌<◌, length, take};
 ghost use Rattle.formats.specs.Digits.{shown, decimal, error_text};
 ghost use Rattle.io.specs.Counts.{IsPrefixLen};
-ghost use Rattle.streams.specs.Gathering.{gathered, Puts, Passes};
+ghost use Rattle.streams.specs.Gathering.{nothing_gathered, more, Puts, Passes, Follows};
 
+use formats::Numbered;
 use std::io::{Error, Write};
+use std::marker::Model;
 
 pub mod arguments;
-pub mod gather;
 pub mod input;
 
-// The state of standard output. The block that goes with it is lent to each call.
-#[derive(Clone, Copy)]
-pub struct Output {
+// Standard output, and the block in which what goes there is gathered.
+#[derive(Drop)]
+pub struct Output<const N: usize> {
     // what it writes by: the handle of `main`, which takes no bytes
     rt: HostRuntime,
+    block: [u8; N],
     // how many bytes at the start of the block are gathered
-    pub used: usize,
+    used: usize,
     // no write has failed; once one has, nothing more is written
-    pub open: bool,
+    open: bool,
+}
+
+impl<const N: usize> Model for Output<N> {
+    ghost use Rattle.std.specs.Prelude.{take, ◌≤◌};
+    ghost use Rattle.streams.specs.Gathering.{Waiting};
+
+    ghost Value = { Waiting };
+
+    ghost view = { λ o. record { waits = take o.used o.block; «open» = o.open } };
+
+    ghost invariant = { λ o. o.used ≤ N };
 }
 
 // ---- output
 
 // Bytes are written, all of them. A write that failed is told on standard error.
-fn write_whole(rt: &HostRuntime, bytes: &[u8]) -> bool {
+pub fn write_whole(rt: &HostRuntime, bytes: &[u8]) -> bool {
     match rt.write_all(bytes) {
         Ok(()) => true,
         Err(error) => {
@@ -39,144 +51,162 @@ fn write_whole(rt: &HostRuntime, bytes: &[u8]) -> bool {
     }
 }
 
-// The first n bytes are written, all where there are fewer.
-pub fn write_first(rt: &HostRuntime, bytes: &[u8], n: usize) -> bool {
-    if n <= bytes.len() {
-        return write_whole(rt, &bytes[..n]);
-    }
-    write_whole(rt, bytes)
+// The first n bytes, all where there are fewer.
+pub fn first(bytes: &[u8], n: usize) -> &[u8]
+    ensures first { result.now ≡ take n bytes.now }
+{
+    &bytes[..n.min(bytes.len())]
 }
 
-impl Output {
+impl<const N: usize> Output<N> {
     // Nothing is gathered.
-    pub fn new(rt: &HostRuntime) -> Output
-        ensures empty { (result.used ≡ 0) × (result.open ≡ true) }
+    pub fn new(rt: &HostRuntime) -> Output<N>
+        ensures empty { result ≡ nothing_gathered }
     {
         Output {
             rt: *rt,
+            block: [0; N],
             used: 0,
             open: true,
         }
     }
 
-    // How many bytes of the block are gathered.
-    fn held(self, block: &[u8]) -> usize
-        ensures counts { (IsPrefixLen result block.now) × (take result block.now ≡ gathered self block.now) }
+    // No write has failed. No more is gathered than the block has room for.
+    pub fn is_open(&self) -> bool
+        ensures is { result ≡ self.now.open }
+        ensures within { length self.now.waits ≤ N }
     {
-        let used = self.used;
-        if used <= block.len() {
-            return used;
-        }
-        block.len()
+        self.open
     }
 
-    // Bytes are written, all of them, where no write has failed before. Nothing is gathered any more.
-    fn sent(self, bytes: &[u8]) -> Output
-        ensures empty { (result.used ≡ 0) × (result.open ≡ true → self.open ≡ true) }
+    // What is gathered.
+    fn gathered(&self) -> &[u8]
+        ensures is { result.now ≡ self.now.waits }
     {
-        let rt = self.rt;
-        if self.open {
-            let open = write_whole(&rt, bytes);
-            return Output { rt, used: 0, open };
-        }
-        Output {
-            rt,
-            used: 0,
-            open: false,
-        }
+        &self.block[..self.used]
     }
 
     // What is gathered goes out.
-    pub fn flushed(self, block: &[u8]) -> Output
-        ensures empty { (result.used ≡ 0) × (result.open ≡ true → self.open ≡ true) }
+    pub fn flush(&mut self)
+        ensures empty { (self.new.waits ≡ []) × (self.new.open ≡ true → self.old.open ≡ true) }
     {
-        let n = self.held(block);
-        self.sent(&block[..n])
+        if self.open {
+            self.open = write_whole(&self.rt, self.gathered());
+        }
+        self.used = 0;
     }
 
     // What is gathered goes to standard error: it is a message.
-    pub fn said(self, block: &[u8]) {
-        let n = self.held(block);
-        say(&self.rt, &block[..n]);
+    pub fn say(&self) {
+        say(&self.rt, self.gathered());
     }
 
-    // The same, where somebody may wait for it.
-    fn passed(self, block: &[u8], awaited: bool) -> Output
-        ensures passes { Passes self result }
+    // What is gathered goes out, where somebody may wait for it.
+    fn pass(&mut self, awaited: bool)
+        ensures passes { Passes self.old self.new }
     {
-        if self.used == 0 {
-            return self;
+        if awaited && self.used > 0 {
+            self.flush();
         }
-        if awaited {
-            return self.flushed(block);
-        }
-        self
+    }
+
+    // Bytes are gathered behind what is there, where they fit.
+    fn append(&mut self, bytes: &[u8])
+        requires { length self.old.waits + length bytes.now ≤ N }
+        ensures follows { self.new ≡ more self.old bytes.now }
+    {
+        let at = self.used;
+        let block = &mut self.block[..];
+        block[at..at + bytes.len()].copy_from_slice(bytes);
+        self.used = at + bytes.len();
     }
 
     // Bytes are gathered behind what is there. Where they do not fit, that goes out first; bytes longer than the block go out at once.
-    pub fn put(self, block: &mut [u8], bytes: &[u8]) -> Output
-        ensures puts { Puts self block.old bytes.now result block.new }
+    pub fn put(&mut self, bytes: &[u8])
+        ensures puts { Puts N self.old bytes.now self.new }
+        ensures follows { Follows N self.old bytes.now self.new }
     {
-        let n = bytes.len();
-        let at = self.held(block);
-        if n <= block.len() - at {
-            formats::copy(bytes, &mut block[at..], n);
-            return Output {
-                rt: self.rt,
-                used: at + n,
-                open: self.open,
-            };
+        if bytes.len() <= N - self.used {
+            self.append(bytes);
+            return;
         }
-        let out = self.flushed(block);
-        if n <= block.len() {
-            formats::copy(bytes, block, n);
-            return Output {
-                rt: out.rt,
-                used: n,
-                open: out.open,
-            };
+        self.flush();
+        if bytes.len() <= N {
+            self.append(bytes);
+            return;
         }
-        out.sent(bytes)
+        if self.open {
+            self.open = write_whole(&self.rt, bytes);
+        }
     }
 
     // The first n bytes are gathered, all where there are fewer.
-    pub fn put_first(self, block: &mut [u8], bytes: &[u8], n: usize) -> Output
-        ensures puts { Puts self block.old (take n bytes.now) result block.new }
+    pub fn put_first(&mut self, bytes: &[u8], n: usize)
+        ensures puts { Puts N self.old (take n bytes.now) self.new }
+        ensures follows { Follows N self.old (take n bytes.now) self.new }
     {
-        if n <= bytes.len() {
-            return self.put(block, &bytes[..n]);
-        }
-        self.put(block, bytes)
+        self.put(first(bytes, n));
+    }
+
+    // A number in n digits to a base, its last ones: eight to the base 16 for a word, three for a line or an event, one for a counter.
+    pub fn put_digits(&mut self, base: u64, n: usize, v: u64)
+        requires { (n ≤ 8) × (1 < base) × (base ≤ 16) }
+        ensures puts { Puts N self.old (shown base n v) self.new }
+        ensures follows { Follows N self.old (shown base n v) self.new }
+    {
+        let mut digits = [0u8; 8];
+        let m = formats::put_digits(&mut digits, 0, base, n, v);
+        self.put_first(&digits, m);
+    }
+
+    // A number in decimal, without leading zeros.
+    pub fn put_decimal(&mut self, v: u64)
+        ensures puts { Puts N self.old (decimal v) self.new }
+        ensures follows { Follows N self.old (decimal v) self.new }
+    {
+        let mut digits = [0u8; 20];
+        let m = formats::put_decimal(&mut digits, 0, v);
+        self.put_first(&digits, m);
+    }
+
+    // The first n bytes of a line are gathered, and at once the byte that stands behind them.
+    fn put_ended(&mut self, mut line: [u8; 21], n: usize, end: u8)
+        requires { n ≤ 20 }
+        ensures puts { Puts N self.old (take n line ++ (end ∷ [])) self.new }
+        ensures follows { Follows N self.old (take n line ++ (end ∷ [])) self.new }
+    {
+        let m = formats::put_char(&mut line, n, end);
+        self.put_first(&line, m);
     }
 
     // A number is gathered, in decimal without leading zeros, and the byte that stands behind it.
-    pub fn put_number(self, block: &mut [u8], v: u64, end: u8) -> Output
-        ensures puts { Puts self block.old (decimal v ++ (end ∷ [])) result block.new }
+    pub fn put_number(&mut self, v: u64, end: u8)
+        ensures puts { Puts N self.old (decimal v ++ (end ∷ [])) self.new }
+        ensures follows { Follows N self.old (decimal v ++ (end ∷ [])) self.new }
     {
         let mut line = [0u8; 21];
-        let next = formats::put_decimal(&mut line, 0, v);
-        let n = formats::put_char(&mut line, next, end);
-        self.put_first(block, &line, n)
+        let n = formats::put_decimal(&mut line, 0, v);
+        self.put_ended(line, n, end);
     }
 
     // A word of 32 bits is gathered, in eight capital hex digits, and the byte that stands behind it.
-    pub fn put_word(self, block: &mut [u8], v: u32, end: u8) -> Output
-        ensures puts { Puts self block.old (shown 16 8 v ++ (end ∷ [])) result block.new }
+    pub fn put_word(&mut self, v: u32, end: u8)
+        ensures puts { Puts N self.old (shown 16 8 v ++ (end ∷ [])) self.new }
+        ensures follows { Follows N self.old (shown 16 8 v ++ (end ∷ [])) self.new }
     {
-        let mut line = [0u8; 9];
-        let next = formats::put_digits(&mut line, 0, 16, 8, v as u64);
-        let n = formats::put_char(&mut line, next, end);
-        self.put_first(block, &line, n)
+        let mut line = [0u8; 21];
+        let n = formats::put_digits(&mut line, 0, 16, 8, v as u64);
+        self.put_ended(line, n, end);
     }
 
-    // A refusal is gathered: E, its number in three digits, and the byte that stands behind it.
-    pub fn put_error(self, block: &mut [u8], e: u8, end: u8) -> Output
-        ensures puts { Puts self block.old (error_text e ++ (end ∷ [])) result block.new }
+    // An error or a refusal is gathered: E, its number in three digits, and the byte that stands behind it.
+    pub fn put_error<E: Numbered>(&mut self, e: E, end: u8)
+        ensures puts { Puts N self.old (error_text (E.number_of e) ++ (end ∷ [])) self.new }
+        ensures follows { Follows N self.old (error_text (E.number_of e) ++ (end ∷ [])) self.new }
     {
-        let mut line = [0u8; 5];
-        let next = formats::put_error(&mut line, 0, e);
-        let n = formats::put_char(&mut line, next, end);
-        self.put_first(block, &line, n)
+        let mut line = [0u8; 21];
+        let n = formats::put_error(&mut line, 0, e);
+        self.put_ended(line, n, end);
     }
 }
 

@@ -1,10 +1,7 @@
 -- `trials::main` is safe: a refused power-on gives the invariant that the calls require.
 -- Assumes nothing.
 use Rattle.calls.proofs.Kept.{power_on_gives}
-use borrow.Author.Rules.{rules}
 use Rattle.trials.proofs.main.Goals as goal
 
 pub turns-requires : goal.turns-requires
-turns-requires c =
-    let kept = power_on_gives _ c.power_on-a.ensures.call in
-    (kept, (search rules, search rules, search rules, search rules))
+turns-requires c = power_on_gives _ c.power_on-a.ensures.call
