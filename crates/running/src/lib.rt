@@ -15,6 +15,7 @@ pub mod known;
 mod loops;
 
 // A loop counter: 0 when free, and the line of the For that holds it.
+// Kept: 0 for a free one, which the C interface has in this struct, and 213-216 show.
 #[repr(C)]
 #[derive(Clone, Copy)]
 pub struct Counter {
@@ -22,6 +23,7 @@ pub struct Counter {
     pub line: u8,
 }
 
+// Kept: the C interface has this struct, with a flag and the numbers beside it, and theorems over calls speak of each of them.
 #[repr(C)]
 #[derive(Clone, Copy)]
 pub struct Run {

@@ -15,6 +15,7 @@ use lines::Line;
 use running::Run;
 
 // The variables that stand beside the program, the run and the wire.
+// Kept: the C interface has this struct, with the event as the number that 212 shows, 0 for none.
 #[repr(C)]
 #[derive(Clone, Copy, Debug, PartialEq, Eq)]
 pub struct Panel {
