@@ -7,20 +7,18 @@ use mathlib.Core.List.{List, []}
 use mathlib.Core.Path.{◌≡◌}
 use lib.ListN.{length}
 use lib.Dec.{eqb, ltb}
-use Rattle.formats.specs.Checks.{text}
+use Rattle.std.specs.Prelude.{Option, Some, None}
+use Rattle.formats.specs.Checks.{Res, refused, passed, text}
 use Rattle.formats.proofs.Checks.{if_case}
 use Rattle.lines.specs.declared.Line.{Line}
 use Rattle.lines.specs.declared.Line.TheVariants.{State, For, Next, Bad}
 use Rattle.lines.specs.Line.{counter_of}
 use Rattle.lines.specs.Program.{line_at}
 use Rattle.texts.proofs.Texts.{text_length}
-use Rattle.streams.specs.declared.Output.{Output}
-use Rattle.streams.specs.Gathering.{gathered, Follows}
+use Rattle.streams.specs.Gathering.{Waiting, nothing_gathered, Follows}
 use Rattle.streams.proofs.Within.{Within, lit, one_within, both, room, decimal_within, digits_within, error_within, waits_whole}
-use Rattle.explanation.specs.declared.Answer.{Answer}
-use Rattle.explanation.specs.declared.Answer.TheVariants.{Refused, Running, Stopped}
 use Rattle.explanation.specs.declared.Cause.{Cause}
-use Rattle.explanation.specs.declared.Cause.TheVariants.{ForLine, Sought, ForAbove, StateLine, Nothing}
+use Rattle.explanation.specs.declared.Cause.TheVariants.{ForLine, Sought, ForAbove, StateLine}
 use Rattle.explanation.specs.declared.Stop.{Stop}
 use Rattle.explain.specs.Telling.{cause_field, fields, first_line, seconds, read_text, busy_advice, above_reason, plain_reason, reason}
 use Rattle.explain.specs.Telling.{stop_sentence, refusal_sentence, running_sentence, sentence, two_lines}
@@ -31,14 +29,14 @@ seconds_within n = both (both (decimal_within (n / 10)) (lit ".")) (digits_withi
 
 -- ---- the first line
 
-cause_within : (c : Cause) → Within 3 (cause_field c)
+cause_within : (c : Option Cause) → Within 3 (cause_field c)
 unfolding text
-cause_within (ForLine k) = digits_within 10 3 k
-cause_within (Sought c) = room 3 (digits_within 10 1 c) (omega arith)
-cause_within (ForAbove true) = lit "yes"
-cause_within (ForAbove false) = room 3 (lit "no") (omega arith)
-cause_within (StateLine k) = digits_within 10 3 k
-cause_within Nothing = room 3 (lit "-") (omega arith)
+cause_within (Some (ForLine k)) = digits_within 10 3 k
+cause_within (Some (Sought c)) = room 3 (digits_within 10 1 c) (omega arith)
+cause_within (Some (ForAbove true)) = lit "yes"
+cause_within (Some (ForAbove false)) = room 3 (lit "no") (omega arith)
+cause_within (Some (StateLine k)) = digits_within 10 3 k
+cause_within None = room 3 (lit "-") (omega arith)
 
 fields_within : (s : Stop) → Within 32 (fields s)
 unfolding fields text
@@ -47,11 +45,11 @@ fields_within s =
     (both (lit " ")
     (both (both (decimal_within s.tick) (lit " ")) (both (digits_within 10 3 s.line) (both (lit " ") (cause_within s.cause)))))
 
-first_within : (a : Answer) → Within 32 (first_line a)
+first_within : (a : Res (Option Stop)) → Within 32 (first_line a)
 unfolding text
-first_within (Refused e) = room 32 (error_within e) (omega arith)
-first_within Running = room 32 (lit "running") (omega arith)
-first_within (Stopped s) = fields_within s
+first_within (refused e) = room 32 (error_within e) (omega arith)
+first_within (passed None) = room 32 (lit "running") (omega arith)
+first_within (passed (Some s)) = fields_within s
 
 -- ---- the sentence
 
@@ -90,26 +88,26 @@ plain_within e =
     (λ _. room 160 (lit "more than 400 For and Next lines fell due in the start itself. Put a State with a time above 0 into the loop.") (omega arith))
     (λ _. room 160 (lit "its eight bytes are no State, For or Next. Write this line again.") (omega arith))
 
-reason_within : (w : Cause) (e line c : ℕ) → Within 160 (reason w e line c)
+reason_within : (w : Option Cause) (e line c : ℕ) → Within 160 (reason w e line c)
 unfolding reason text
-reason_within (ForLine k) e line c =
+reason_within (Some (ForLine k)) e line c =
     room 160
     (both (lit "counter ")
     (both (digits_within 10 1 c)
     (both (lit " was still in use by the For on line ") (both (digits_within 10 3 k) (both (lit ". ") (advice_within k line))))))
     (omega arith)
-reason_within (Sought n) e line c =
+reason_within (Some (Sought n)) e line c =
     room 160
     (both (lit "no Next of counter ")
     (both (digits_within 10 1 n) (both (lit " stands on a later line. Write N") (both (digits_within 10 1 n) (lit " on the line where the loop ends.")))))
     (omega arith)
-reason_within (ForAbove b) e line c = above_within b c
-reason_within (StateLine k) e line c =
+reason_within (Some (ForAbove b)) e line c = above_within b c
+reason_within (Some (StateLine k)) e line c =
     room 160
     (both (lit "more than 400 For and Next lines fell due in one tick, behind the State on line ")
     (both (digits_within 10 3 k) (lit ". Put a State with a time above 0 into the loop.")))
     (omega arith)
-reason_within Nothing e line c = plain_within e
+reason_within None e line c = plain_within e
 
 stop_within : (l : Line) (s : Stop) → Within 230 (stop_sentence l s)
 unfolding stop_sentence text
@@ -136,18 +134,18 @@ running_within limit =
     (both (seconds_within limit) (lit " s: nothing stops it up to the limit. A limit can be as large as 100000 ticks.")))
     (omega arith)
 
-sentence_within : (p : List ℕ) (limit : ℕ) (a : Answer) → Within 230 (sentence p limit a)
-sentence_within p limit (Refused e) = refusal_within e
-sentence_within p limit Running = running_within limit
-sentence_within p limit (Stopped s) = stop_within (line_at p s.line) s
+sentence_within : (p : List ℕ) (limit : ℕ) (a : Res (Option Stop)) → Within 230 (sentence p limit a)
+sentence_within p limit (refused e) = refusal_within e
+sentence_within p limit (passed None) = running_within limit
+sentence_within p limit (passed (Some s)) = stop_within (line_at p s.line) s
 
 -- ---- both
 
-lines_within : (p : List ℕ) (limit : ℕ) (a : Answer) → Within 264 (two_lines p limit a)
+lines_within : (p : List ℕ) (limit : ℕ) (a : Res (Option Stop)) → Within 264 (two_lines p limit a)
 unfolding two_lines
 lines_within p limit a = both (both (first_within a) (one_within 10)) (both (sentence_within p limit a) (one_within 10))
 
 -- In a block of 512 bytes, of which none wait, what is told waits whole, and no write has failed.
-pub told_whole : (p : List ℕ) (limit : ℕ) (a : Answer) {o r : Output} {block block' : List ℕ} → length block ≡ 512 → gathered o block ≡ []
-    → Follows o block (two_lines p limit a) r block' → (gathered r block' ≡ two_lines p limit a) × (r.open ≡ o.open)
-told_whole p limit a {block = block} size none f = waits_whole {block = block} (lines_within p limit a) (omega (arith, size)) none f
+pub told_whole : (p : List ℕ) (limit : ℕ) (a : Res (Option Stop)) {r : Waiting} → Follows 512 nothing_gathered (two_lines p limit a) r
+    → (r.waits ≡ two_lines p limit a) × (r.open ≡ true)
+told_whole p limit a f = waits_whole (lines_within p limit a) (omega arith) f

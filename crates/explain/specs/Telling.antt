@@ -1,19 +1,17 @@
 -- What the program tells of a program that was read: two lines.
 -- 02, item 9: "The deckhand wants the reason and not a number. [...] It answers still running, or the event, its tick from the start, its line and the
 -- cause". Item 1: "a refusal is printed as E and three digits, here and later."
-use Rattle.std.specs.Prelude.{ℕ, ◌/◌, ◌<◌, Bool, true, false, List, [], ◌∷◌, ◌++◌, eqb, ltb}
+use Rattle.std.specs.Prelude.{ℕ, ◌/◌, ◌<◌, Bool, true, false, List, [], ◌∷◌, ◌++◌, eqb, ltb, Option, Some, None}
 use Rattle.std.specs.Prelude.{if◌then◌else◌}
-use Rattle.formats.specs.Checks.{text}
+use Rattle.formats.specs.Checks.{Res, refused, passed, text}
 use Rattle.formats.specs.Digits.{shown, d, decimal, error_text}
 use Rattle.lines.specs.declared.Line.{Line}
 use Rattle.lines.specs.declared.Line.TheVariants.{State, For, Next, Bad}
 use Rattle.lines.specs.Line.{counter_of}
 use Rattle.lines.specs.Program.{IsProgram, line_at}
 use Rattle.texts.specs.Text.{line_text}
-use Rattle.explanation.specs.declared.Answer.{Answer}
-use Rattle.explanation.specs.declared.Answer.TheVariants.{Refused, Running, Stopped}
 use Rattle.explanation.specs.declared.Cause.{Cause}
-use Rattle.explanation.specs.declared.Cause.TheVariants.{ForLine, Sought, ForAbove, StateLine, Nothing}
+use Rattle.explanation.specs.declared.Cause.TheVariants.{ForLine, Sought, ForAbove, StateLine}
 use Rattle.explanation.specs.declared.Stop.{Stop}
 
 -- ---- the first line: the fields, or `running`, or the refusal
@@ -23,22 +21,22 @@ abbrev pub digit : ℕ → List ℕ
 digit c = shown 10 1 c
 
 -- a line in three digits, a counter, `yes` or `no`, or `-`
-abbrev pub cause_field : Cause → List ℕ
-cause_field (ForLine k) = d k
-cause_field (Sought c) = digit c
-cause_field (ForAbove true) = text "yes"
-cause_field (ForAbove false) = text "no"
-cause_field (StateLine k) = d k
-cause_field Nothing = text "-"
+abbrev pub cause_field : Option Cause → List ℕ
+cause_field (Some (ForLine k)) = d k
+cause_field (Some (Sought c)) = digit c
+cause_field (Some (ForAbove true)) = text "yes"
+cause_field (Some (ForAbove false)) = text "no"
+cause_field (Some (StateLine k)) = d k
+cause_field None = text "-"
 
 -- event, tick, line and cause
 unfoldable pub fields : Stop → List ℕ
 fields s = d s.event ++ (text " " ++ (decimal s.tick ++ text " " ++ (d s.line ++ (text " " ++ cause_field s.cause))))
 
-abbrev pub first_line : Answer → List ℕ
-first_line (Refused e) = error_text e
-first_line Running = text "running"
-first_line (Stopped s) = fields s
+abbrev pub first_line : Res (Option Stop) → List ℕ
+first_line (refused e) = error_text e
+first_line (passed None) = text "running"
+first_line (passed (Some s)) = fields s
 
 -- ---- the second line: a sentence that says why, and what to do
 
@@ -75,15 +73,15 @@ plain_reason event =
     else text "its eight bytes are no State, For or Next. Write this line again."
 
 -- why the program stopped on this line, which names counter c
-unfoldable pub reason : Cause → ℕ → ℕ → ℕ → List ℕ
-reason (ForLine k) event line c = text "counter " ++ (digit c ++ (text " was still in use by the For on line " ++ (d k ++ (text ". " ++ busy_advice k line))))
-reason (Sought n) event line c =
+unfoldable pub reason : Option Cause → ℕ → ℕ → ℕ → List ℕ
+reason (Some (ForLine k)) event line c = text "counter " ++ (digit c ++ (text " was still in use by the For on line " ++ (d k ++ (text ". " ++ busy_advice k line))))
+reason (Some (Sought n)) event line c =
     text "no Next of counter " ++ (digit n ++ (text " stands on a later line. Write N" ++ (digit n ++ text " on the line where the loop ends.")))
-reason (ForAbove above) event line c = above_reason above c
-reason (StateLine k) event line c =
+reason (Some (ForAbove above)) event line c = above_reason above c
+reason (Some (StateLine k)) event line c =
     text "more than 400 For and Next lines fell due in one tick, behind the State on line " ++ (d k
     ++ text ". Put a State with a time above 0 into the loop.")
-reason Nothing event line c = plain_reason event
+reason None event line c = plain_reason event
 
 -- l is the line on which it stopped
 unfoldable pub stop_sentence : Line → Stop → List ℕ
@@ -101,20 +99,20 @@ unfoldable pub running_sentence : ℕ → List ℕ
 running_sentence limit = text "Still running after " ++ (seconds limit ++ text " s: nothing stops it up to the limit. A limit can be as large as 100000 ticks.")
 
 -- of the program p and the limit
-abbrev pub sentence : List ℕ → ℕ → Answer → List ℕ
-sentence p limit (Refused e) = refusal_sentence e
-sentence p limit Running = running_sentence limit
-sentence p limit (Stopped s) = stop_sentence (line_at p s.line) s
+abbrev pub sentence : List ℕ → ℕ → Res (Option Stop) → List ℕ
+sentence p limit (refused e) = refusal_sentence e
+sentence p limit (passed None) = running_sentence limit
+sentence p limit (passed (Some s)) = stop_sentence (line_at p s.line) s
 
 abbrev pub line_end : List ℕ
 line_end = 10 ∷ []
 
 -- both, each ended by byte 10
-unfoldable pub two_lines : List ℕ → ℕ → Answer → List ℕ
+unfoldable pub two_lines : List ℕ → ℕ → Res (Option Stop) → List ℕ
 two_lines p limit a = first_line a ++ line_end ++ (sentence p limit a ++ line_end)
 
 -- what the code needs to read the line on which it stopped
-abbrev pub Readable : List ℕ → Answer → Type 0
-Readable p (Refused e) = Unit
-Readable p Running = Unit
-Readable p (Stopped s) = IsProgram p × (s.line < 200)
+abbrev pub Readable : List ℕ → Res (Option Stop) → Type 0
+Readable p (refused e) = Unit
+Readable p (passed None) = Unit
+Readable p (passed (Some s)) = IsProgram p × (s.line < 200)

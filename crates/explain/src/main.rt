@@ -3,7 +3,6 @@
 // What is told is in a contract, by specs/Telling.antt; which bytes were read, and which went out, is in none, since the library's have none.
 #![tactic(auto)]
 
-use formats::Written;
 use streams::input::Input;
 use streams::{Output, arguments};
 
@@ -17,20 +16,20 @@ fn main(rt: HostRuntime) {
     if !arguments::fit(&rt, 1, 3, usage) {
         return;
     }
-    let Written::Is(start) = arguments::number(&rt, 1, 0, usage) else {
+    let Some(start) = arguments::number(&rt, 1, 0, usage) else {
         return;
     };
-    let Written::Is(limit) = arguments::number(&rt, 2, explanation::MOST_TICKS, usage) else {
+    let Some(limit) = arguments::number(&rt, 2, explanation::MOST_TICKS, usage) else {
+        return;
+    };
+    let Ok(mut input) = Input::from(&rt, 3) else {
         return;
     };
     let mut program = [0u8; MORE_THAN_A_PROGRAM];
-    let input = Input::from(&rt, 3);
-    let p = input.piece(Output::new(&rt), &[], &mut program);
-    if p.input.failed {
+    let Ok(n) = input.piece(&mut Output::<0>::new(&rt), &mut program) else {
         return;
-    }
-    let n = p.count;
-    let mut block = [0u8; 512];
-    let output = telling::told_whole(&rt, &mut block, &program[..n], start, limit);
-    output.flushed(&block);
+    };
+    let mut output = Output::new(&rt);
+    telling::put_whole(&mut output, &program[..n], start, limit);
+    output.flush();
 }

@@ -1,295 +1,262 @@
 // The two lines that are told of a program, gathered for output. Definitions: specs/Telling.antt.
-ghost use Rattle.std.specs.Prelude.{true, ◌++◌, ◌≡◌, length};
-ghost use Rattle.streams.specs.Gathering.{gathered, Follows};
-ghost use Rattle.explanation.specs.Report.{report, answer_of};
+ghost use Rattle.std.specs.Prelude.{Some, true, ◌++◌, ◌≡◌};
+ghost use Rattle.formats.specs.Numbers.{res_of};
+ghost use Rattle.streams.specs.Gathering.{nothing_gathered, Follows};
+ghost use Rattle.explanation.specs.Refusals.{number_of};
+ghost use Rattle.explanation.specs.Report.{report};
 ghost use Rattle.explanation.specs.declared.Cause.TheVariants.{ForLine, Sought, StateLine};
 ghost use Rattle.explain.specs.Telling.{read_text, cause_field, fields, first_line, seconds, busy_advice, above_reason, plain_reason, reason, stop_sentence};
 ghost use Rattle.explain.specs.Telling.{refusal_sentence, running_sentence, sentence, line_end, two_lines, Readable};
 
-use explanation::{Answer, Cause, Stop};
+use explanation::{Cause, Refusal, Stop};
 use lines::Line;
 use streams::Output;
-use streams::gather::{put, put_digits};
 
-// Each function below puts text behind what is gathered in the block.
+// How many bytes are gathered before they go out: both lines have room.
+const BLOCK: usize = 512;
+
+pub type Told = Output<BLOCK>;
+
+// Each function below puts text behind what is gathered.
 
 // Ticks as seconds.
-fn put_seconds(output: Output, block: &mut [u8], ticks: u64) -> Output
-    ensures follows { Follows output block.old (seconds ticks) result block.new }
+#[tactic(auto, using(streams::proofs::Following::follows_more), unfolding(crate::specs::Telling::seconds, formats::specs::Checks::text))]
+fn put_seconds(output: &mut Told, ticks: u64)
+    ensures follows { Follows BLOCK output.old (seconds ticks) output.new }
 {
-    let whole = output.put_number(block, ticks / 10, b'.');
-    put_digits(whole, block, 10, 1, ticks)
+    output.put_number(ticks / 10, b'.');
+    output.put_digits(10, 1, ticks);
 }
 
 // A line as a read of it over the wire answers.
-fn put_read(output: Output, block: &mut [u8], l: Line) -> Output
-    ensures follows { Follows output block.old (read_text l) result block.new }
+fn put_read(output: &mut Told, l: Line)
+    ensures follows { Follows BLOCK output.old (read_text l) output.new }
 {
     let mut chars = [0u8; 15];
-    if lines::is_bad(l) {
-        let m = formats::put_error(&mut chars, 0, 24);
-        return output.put_first(block, &chars, m);
-    }
-    let m = texts::put_line_text(&mut chars, 0, l);
-    output.put_first(block, &chars, m)
+    let m = if lines::is_bad(l) {
+        formats::put_error(&mut chars, 0, formats::Error::BadLine)
+    } else {
+        texts::put_line_text(&mut chars, 0, l)
+    };
+    output.put_first(&chars, m);
 }
 
 // ---- the first line
 
 // The last field.
-fn put_cause(output: Output, block: &mut [u8], cause: Cause) -> Output
-    ensures follows { Follows output block.old (cause_field cause) result block.new }
+#[tactic(auto, unfolding(formats::specs::Checks::text))]
+fn put_cause(output: &mut Told, cause: Option<Cause>)
+    ensures follows { Follows BLOCK output.old (cause_field cause) output.new }
 {
     match cause {
-        Cause::ForLine(k) => put_digits(output, block, 10, 3, k as u64),
-        Cause::Sought(c) => put_digits(output, block, 10, 1, c as u64),
-        Cause::ForAbove(yes) => {
-            if yes {
-                return put(output, block, b"yes");
-            }
-            put(output, block, b"no")
-        }
-        Cause::StateLine(k) => put_digits(output, block, 10, 3, k as u64),
-        Cause::Nothing => put(output, block, b"-"),
+        Some(Cause::ForLine(k)) => output.put_digits(10, 3, k as u64),
+        Some(Cause::Sought(c)) => output.put_digits(10, 1, c as u64),
+        Some(Cause::ForAbove(true)) => output.put(b"yes"),
+        Some(Cause::ForAbove(false)) => output.put(b"no"),
+        Some(Cause::StateLine(k)) => output.put_digits(10, 3, k as u64),
+        None => output.put(b"-"),
     }
 }
 
 // Event, tick, line and cause.
-fn put_fields(output: Output, block: &mut [u8], stop: Stop) -> Output
-    ensures follows { Follows output block.old (fields stop) result block.new }
+#[tactic(auto, using(streams::proofs::Following::follows_more), unfolding(crate::specs::Telling::fields, formats::specs::Checks::text))]
+fn put_fields(output: &mut Told, stop: Stop)
+    ensures follows { Follows BLOCK output.old (fields stop) output.new }
 {
-    let event = put_digits(output, block, 10, 3, stop.event as u64);
-    let one = put(event, block, b" ");
-    let tick = one.put_number(block, stop.tick as u64, b' ');
-    let line = put_digits(tick, block, 10, 3, stop.line as u64);
-    let three = put(line, block, b" ");
-    let cause = stop.cause;
-    put_cause(three, block, cause)
+    output.put_digits(10, 3, stop.event as u64);
+    output.put(b" ");
+    output.put_number(stop.tick as u64, b' ');
+    output.put_digits(10, 3, stop.line as u64);
+    output.put(b" ");
+    put_cause(output, stop.cause);
 }
 
 // ---- the second line
 
 // 006: what to do about a counter that the For on line k holds, where the program stopped on this line.
-fn put_busy_advice(output: Output, block: &mut [u8], k: u8, line: u8) -> Output
-    ensures follows { Follows output block.old (busy_advice k line) result block.new }
+#[tactic(auto, unfolding(crate::specs::Telling::busy_advice, formats::specs::Checks::text))]
+fn put_busy_advice(output: &mut Told, k: u8, line: u8)
+    ensures follows { Follows BLOCK output.old (busy_advice k line) output.new }
 {
     if k < line {
-        return put(output, block, b"Give the inner loop another counter.");
+        output.put(b"Give the inner loop another counter.");
+    } else {
+        output.put(b"Two loops cross: end the inner one before the outer one.");
     }
-    put(
-        output,
-        block,
-        b"Two loops cross: end the inner one before the outer one.",
-    )
 }
 
 // 006.
-fn put_busy(output: Output, block: &mut [u8], k: u8, line: u8, c: u8) -> Output
-    ensures follows { Follows output block.old (reason (ForLine k) 6 line c) result block.new }
+#[tactic(auto, using(streams::proofs::Following::follows_more), unfolding(crate::specs::Telling::reason, formats::specs::Checks::text))]
+fn put_busy(output: &mut Told, k: u8, line: u8, c: u8)
+    ensures follows { Follows BLOCK output.old (reason (Some (ForLine k)) 6 line c) output.new }
 {
-    let a = put(output, block, b"counter ");
-    let counter = put_digits(a, block, 10, 1, c as u64);
-    let b = put(counter, block, b" was still in use by the For on line ");
-    let holder = put_digits(b, block, 10, 3, k as u64);
-    let d = put(holder, block, b". ");
-    put_busy_advice(d, block, k, line)
+    output.put(b"counter ");
+    output.put_digits(10, 1, c as u64);
+    output.put(b" was still in use by the For on line ");
+    output.put_digits(10, 3, k as u64);
+    output.put(b". ");
+    put_busy_advice(output, k, line);
 }
 
 // 007.
-fn put_sought(output: Output, block: &mut [u8], n: u8) -> Output
-    ensures follows { Follows output block.old (reason (Sought n) 7 0 0) result block.new }
+#[tactic(auto, using(streams::proofs::Following::follows_more), unfolding(crate::specs::Telling::reason, formats::specs::Checks::text))]
+fn put_sought(output: &mut Told, n: u8)
+    ensures follows { Follows BLOCK output.old (reason (Some (Sought n)) 7 0 0) output.new }
 {
-    let a = put(output, block, b"no Next of counter ");
-    let counter = put_digits(a, block, 10, 1, n as u64);
-    let b = put(counter, block, b" stands on a later line. Write N");
-    let again = put_digits(b, block, 10, 1, n as u64);
-    put(again, block, b" on the line where the loop ends.")
+    output.put(b"no Next of counter ");
+    output.put_digits(10, 1, n as u64);
+    output.put(b" stands on a later line. Write N");
+    output.put_digits(10, 1, n as u64);
+    output.put(b" on the line where the loop ends.");
 }
 
 // 008.
-fn put_above(output: Output, block: &mut [u8], yes: bool, c: u8) -> Output
-    ensures follows { Follows output block.old (above_reason yes c) result block.new }
+#[tactic(auto, using(streams::proofs::Following::follows_more), unfolding(crate::specs::Telling::above_reason, formats::specs::Checks::text))]
+fn put_above(output: &mut Told, above: bool, c: u8)
+    ensures follows { Follows BLOCK output.old (above_reason above c) output.new }
 {
-    if yes {
-        let a = put(output, block, b"counter ");
-        let counter = put_digits(a, block, 10, 1, c as u64);
-        return put(
-            counter,
-            block,
+    if above {
+        output.put(b"counter ");
+        output.put_digits(10, 1, c as u64);
+        output.put(
             b" was not in use, although a For of it stands above. Start at that For or above it, or take this Next out.",
         );
+    } else {
+        output.put(b"no For of counter ");
+        output.put_digits(10, 1, c as u64);
+        output.put(b" stands above. Write one there, or take this Next out.");
     }
-    let a = put(output, block, b"no For of counter ");
-    let counter = put_digits(a, block, 10, 1, c as u64);
-    put(
-        counter,
-        block,
-        b" stands above. Write one there, or take this Next out.",
-    )
 }
 
 // 013 behind a State line.
-fn put_over(output: Output, block: &mut [u8], k: u8) -> Output
-    ensures follows { Follows output block.old (reason (StateLine k) 13 0 0) result block.new }
+fn put_over(output: &mut Told, k: u8)
+    ensures follows { Follows BLOCK output.old (reason (Some (StateLine k)) 13 0 0) output.new }
 {
-    let a = put(
-        output,
-        block,
-        b"more than 400 For and Next lines fell due in one tick, behind the State on line ",
-    );
-    let state = put_digits(a, block, 10, 3, k as u64);
-    put(
-        state,
-        block,
-        b". Put a State with a time above 0 into the loop.",
-    )
+    output.put(b"more than 400 For and Next lines fell due in one tick, behind the State on line ");
+    output.put_digits(10, 3, k as u64);
+    output.put(b". Put a State with a time above 0 into the loop.");
 }
 
 // An event that has no cause.
-fn put_plain(output: Output, block: &mut [u8], event: u8) -> Output
-    ensures follows { Follows output block.old (plain_reason event) result block.new }
+#[tactic(auto, unfolding(crate::specs::Telling::plain_reason, formats::specs::Checks::text))]
+fn put_plain(output: &mut Told, event: u8)
+    ensures follows { Follows BLOCK output.old (plain_reason event) output.new }
 {
-    if event == 9 {
-        return put(
-            output,
-            block,
+    match event {
+        9 => output.put(
             b"the program went on past line 199, the last one. Write an end mark, S00000000000000, on the line where it ends.",
-        );
-    }
-    if event == 11 {
-        return put(
-            output,
-            block,
-            b"the program came to its end mark. Nothing has to be done.",
-        );
-    }
-    if event == 13 {
-        return put(
-            output,
-            block,
+        ),
+        11 => output.put(b"the program came to its end mark. Nothing has to be done."),
+        13 => output.put(
             b"more than 400 For and Next lines fell due in the start itself. Put a State with a time above 0 into the loop.",
-        );
+        ),
+        _ => output.put(b"its eight bytes are no State, For or Next. Write this line again."),
     }
-    put(
-        output,
-        block,
-        b"its eight bytes are no State, For or Next. Write this line again.",
-    )
 }
 
 // Why the program stopped, on a line that names counter c.
-fn put_reason(output: Output, block: &mut [u8], cause: Cause, event: u8, line: u8, c: u8) -> Output
-    ensures follows { Follows output block.old (reason cause event line c) result block.new }
+#[tactic(auto, unfolding(crate::specs::Telling::reason, formats::specs::Checks::text))]
+fn put_reason(output: &mut Told, cause: Option<Cause>, event: u8, line: u8, c: u8)
+    ensures follows { Follows BLOCK output.old (reason cause event line c) output.new }
 {
     match cause {
-        Cause::ForLine(k) => put_busy(output, block, k, line, c),
-        Cause::Sought(n) => put_sought(output, block, n),
-        Cause::ForAbove(yes) => put_above(output, block, yes, c),
-        Cause::StateLine(k) => put_over(output, block, k),
-        Cause::Nothing => put_plain(output, block, event),
+        Some(Cause::ForLine(k)) => put_busy(output, k, line, c),
+        Some(Cause::Sought(n)) => put_sought(output, n),
+        Some(Cause::ForAbove(above)) => put_above(output, above, c),
+        Some(Cause::StateLine(k)) => put_over(output, k),
+        None => put_plain(output, event),
     }
 }
 
 // Why it stopped on line l.
-fn put_stop(output: Output, block: &mut [u8], l: Line, stop: Stop) -> Output
-    ensures follows { Follows output block.old (stop_sentence l stop) result block.new }
+fn put_stop(output: &mut Told, l: Line, stop: Stop)
+    ensures follows { Follows BLOCK output.old (stop_sentence l stop) output.new }
 {
-    let a = put(output, block, b"Stopped after ");
-    let time = put_seconds(a, block, stop.tick as u64);
-    let b = put(time, block, b" s on line ");
-    let number = put_digits(b, block, 10, 3, stop.line as u64);
-    let d = put(number, block, b" (");
-    let read = put_read(d, block, l);
-    let e = put(read, block, b"): ");
-    let cause = stop.cause;
-    put_reason(e, block, cause, stop.event, stop.line, lines::counter_of(l))
+    output.put(b"Stopped after ");
+    put_seconds(output, stop.tick as u64);
+    output.put(b" s on line ");
+    output.put_digits(10, 3, stop.line as u64);
+    output.put(b" (");
+    put_read(output, l);
+    output.put(b"): ");
+    // a reason that names a counter is one of a line that has it
+    let c = lines::counter_of(l).unwrap_or(0);
+    put_reason(output, stop.cause, stop.event, stop.line, c);
 }
 
 // Why nothing is told of it.
-fn put_refusal(output: Output, block: &mut [u8], e: u8) -> Output
-    ensures follows { Follows output block.old (refusal_sentence e) result block.new }
+#[tactic(auto, unfolding(crate::specs::Telling::refusal_sentence, formats::specs::Checks::text))]
+fn put_refusal(output: &mut Told, e: Refusal)
+    ensures follows { Follows BLOCK output.old (refusal_sentence (number_of e)) output.new }
 {
-    if e == 30 {
-        return put(
-            output,
-            block,
+    match e {
+        Refusal::NotProgram => output.put(
             b"This is no stored program: it has fewer or more than 1600 bytes. Give a file of 200 lines of 8 bytes.",
-        );
-    }
-    if e == 60 {
-        return put(
-            output,
-            block,
+        ),
+        Refusal::NoSuchLine => output.put(
             b"The start line is above 199, the last line. Give a line of 0 to 199.",
-        );
+        ),
+        Refusal::LimitTooLarge => output.put(
+            b"The limit is above 100000 ticks. Give a limit of 0 to 100000.",
+        ),
     }
-    put(
-        output,
-        block,
-        b"The limit is above 100000 ticks. Give a limit of 0 to 100000.",
-    )
 }
 
 // That it still runs.
-fn put_running(output: Output, block: &mut [u8], limit: u64) -> Output
-    ensures follows { Follows output block.old (running_sentence limit) result block.new }
+#[tactic(auto, using(streams::proofs::Following::follows_more), unfolding(crate::specs::Telling::running_sentence, formats::specs::Checks::text))]
+fn put_running(output: &mut Told, limit: u64)
+    ensures follows { Follows BLOCK output.old (running_sentence limit) output.new }
 {
-    let a = put(output, block, b"Still running after ");
-    let time = put_seconds(a, block, limit);
-    put(
-        time,
-        block,
-        b" s: nothing stops it up to the limit. A limit can be as large as 100000 ticks.",
-    )
+    output.put(b"Still running after ");
+    put_seconds(output, limit);
+    output.put(b" s: nothing stops it up to the limit. A limit can be as large as 100000 ticks.");
 }
 
 // ---- both
 
 // The first line of an answer.
-fn put_first_line(output: Output, block: &mut [u8], answer: Answer) -> Output
-    ensures follows { Follows output block.old (first_line answer ++ line_end) result block.new }
+#[tactic(auto, using(streams::proofs::Following::follows_more), unfolding(formats::specs::Checks::text))]
+fn put_first_line(output: &mut Told, answer: Result<Option<Stop>, Refusal>)
+    ensures follows { Follows BLOCK output.old (first_line (res_of number_of answer) ++ line_end) output.new }
 {
     match answer {
-        Answer::Refused(e) => output.put_error(block, e, 10),
-        Answer::Running => put(output, block, b"running\n"),
-        Answer::Stopped(stop) => {
-            let fields = put_fields(output, block, stop);
-            put(fields, block, b"\n")
+        Err(e) => output.put_error(e, b'\n'),
+        Ok(None) => output.put(b"running\n"),
+        Ok(Some(stop)) => {
+            put_fields(output, stop);
+            output.put(b"\n");
         }
     }
 }
 
 // The sentence of an answer.
-fn put_sentence(output: Output, block: &mut [u8], p: &[u8], limit: u64, answer: Answer) -> Output
-    requires { Readable p.now answer }
-    ensures follows { Follows output block.old (sentence p.now limit answer) result block.new }
+fn put_sentence(output: &mut Told, p: &[u8], limit: u64, answer: Result<Option<Stop>, Refusal>)
+    requires { Readable p.now (res_of number_of answer) }
+    ensures follows { Follows BLOCK output.old (sentence p.now limit (res_of number_of answer)) output.new }
 {
     match answer {
-        Answer::Refused(e) => put_refusal(output, block, e),
-        Answer::Running => put_running(output, block, limit),
-        Answer::Stopped(stop) => {
-            let l = lines::line_at(p, stop.line as usize);
-            put_stop(output, block, l, stop)
-        }
+        Err(e) => put_refusal(output, e),
+        Ok(None) => put_running(output, limit),
+        Ok(Some(stop)) => put_stop(output, lines::line_at(p, stop.line as usize), stop),
     }
 }
 
 // What is told of a program that was read, or of bytes that are none.
-fn told(output: Output, block: &mut [u8], p: &[u8], start: u64, limit: u64) -> Output
-    ensures follows { Follows output block.old (two_lines p.now limit (answer_of (report p.now start limit))) result
-        block.new }
+#[tactic(auto, using(streams::proofs::Following::follows_more), unfolding(crate::specs::Telling::two_lines, formats::specs::Checks::text))]
+fn put_told(output: &mut Told, p: &[u8], start: u64, limit: u64)
+    ensures follows { Follows BLOCK output.old (two_lines p.now limit (report p.now start limit)) output.new }
 {
     let answer = explanation::report(p, start, limit);
-    let first = put_first_line(output, block, answer);
-    let second = put_sentence(first, block, p, limit, answer);
-    put(second, block, b"\n")
+    put_first_line(output, answer);
+    put_sentence(output, p, limit, answer);
+    output.put(b"\n");
 }
 
-// The same where nothing is gathered yet, and the block has room for all of it.
-pub fn told_whole(rt: &HostRuntime, block: &mut [u8], p: &[u8], start: u64, limit: u64) -> Output
-    requires { length block.old ≡ 512 }
-    ensures open { result.open ≡ true }
-    ensures whole { gathered result block.new ≡ two_lines p.now limit (answer_of (report p.now start limit)) }
+// The same where nothing is gathered yet: the block has room for all of it.
+pub fn put_whole(output: &mut Told, p: &[u8], start: u64, limit: u64)
+    requires { output.old ≡ nothing_gathered }
+    ensures open { output.new.open ≡ true }
+    ensures whole { output.new.waits ≡ two_lines p.now limit (report p.now start limit) }
 {
-    told(Output::new(rt), block, p, start, limit)
+    put_told(output, p, start, limit);
 }

@@ -3,8 +3,9 @@
 use Rattle.formats.specs.Checks.{text}
 use Rattle.explain.specs.Telling.{reason}
 use Rattle.streams.proofs.Following.{follows_more}
+use borrow.Author.Rules.{rules}
 use Rattle.explain.proofs.telling.put_over.Goals as goal
 
 pub returns : goal.returns
 unfolding reason text
-returns c = record { follows = follows_more c.put-a.ensures.follows (follows_more c.put_digits-state.ensures.follows c.put.ensures.follows) }
+returns c = record { follows = search (rules, follows_more) }

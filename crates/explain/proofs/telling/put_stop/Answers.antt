@@ -1,19 +1,17 @@
--- `explain::telling::put_stop` meets its contract: piece by piece.
+-- `explain::telling::put_stop` meets its contract: piece by piece, the reason by the counter that the line names.
 -- Assumes nothing.
+use mathlib.Core.Path.{ap, ◌∙◌}
+use Rattle.std.specs.Prelude.{unwrap_or}
 use Rattle.formats.specs.Checks.{text}
 use Rattle.explain.specs.Telling.{stop_sentence}
+use Rattle.explain.proofs.Reading.{named}
 use Rattle.streams.proofs.Following.{follows_more}
+use borrow.Author.Rules.{rules}
 use Rattle.explain.proofs.telling.put_stop.Goals as goal
 
 pub returns : goal.returns
 unfolding stop_sentence text
 returns c =
-    record {
-      follows =
-          follows_more c.put-a.ensures.follows
-          (follows_more c.put_seconds-time.ensures.follows
-          (follows_more c.put-b.ensures.follows
-          (follows_more c.put_digits-number.ensures.follows
-          (follows_more c.put-d.ensures.follows
-          (follows_more c.put_read-read.ensures.follows (follows_more c.put-e.ensures.follows (rw c.counter_of.ensures.counter at c.put_reason.ensures.follows)))))));
-    }
+    let counter = c.unwrap_or-c.ensures ∙ ap (λ o. unwrap_or o 0) c.counter_of.ensures.counter ∙ named c.args.l in
+    let last = rw counter at c.put_reason.ensures.follows in
+    record { follows = search (rules, follows_more) }
