@@ -186,7 +186,10 @@ pub fn put_line(p: &mut [u8], k: usize, l: Line)
 fn is_next_of(c: u8, l: Line) -> bool
     ensures test { result ≡ is_next_of c l }
 {
-    l == Line::Next { counter: c }
+    let Line::Next { counter } = l else {
+        return false;
+    };
+    c == counter
 }
 
 // Line i is a Next of counter c. Its first two bytes are asked first, of which the counter decides for nearly every line of a search.

@@ -78,26 +78,35 @@ impl Panel {
     }
 }
 
-// ---- the bytes of the output word, and the status
+// ---- bits
+
+// How many bits of the output word stand below the byte at 203-206.
+fn bits_below(k: u8) -> u32
+    requires { (203 ≤ k) × (k ≤ 206) }
+    ensures bits { result ≡ 8 * (206 - k) }
+{
+    8 * ((206 - k) as u32)
+}
+
+// Kept: shift and mask for 203-206, D7, D1 and D0, a form that this project has settled (docs/DECISIONS.md, 'Forms').
 
 // The byte of the output word that 203-206 shows.
-#[tactic(auto, unfolding(crate::specs::Variables::output_byte))]
 pub fn output_byte(word: u32, k: u8) -> u8
     requires { (203 ≤ k) × (k ≤ 206) }
     ensures byte { result ≡ output_byte k word }
 {
-    formats::four_bytes(word)[(k - 203) as usize]
+    let s = bits_below(k);
+    ((word >> s) % 256) as u8
 }
 
 // The output word with the byte x at 203-206: its eight bits are altered, and no other bit.
-#[tactic(auto, unfolding(crate::specs::Variables::with_output_byte))]
 pub fn with_output_byte(word: u32, k: u8, x: u8) -> u32
     requires { (203 ≤ k) × (k ≤ 206) }
     ensures word { result ≡ with_output_byte k x word }
 {
-    let mut bytes = formats::four_bytes(word);
-    bytes[(k - 203) as usize] = x;
-    formats::number_of_four(bytes[0], bytes[1], bytes[2], bytes[3])
+    let s = bits_below(k);
+    let mask: u32 = 0xFF << s;
+    (word & !mask) | ((x as u32) << s)
 }
 
 // The byte at 201: D7 unread event, D1 running, D0 paused.
