@@ -4,7 +4,7 @@ use mathlib.Core.Path.{◌≡◌}
 use Prim.Native.Nat.{ℕ, ◌≤◌, ◌<◌}
 use native.Mathlib.Omega.{arith}
 use Prim.Native.Char.{code}
-use mathlib.Core.Bool.{true, false}
+use mathlib.Core.Bool.{Bool, true, false}
 use mathlib.Core.List.{List}
 use lib.ListN.{length, take}
 use borrow.Author.Tests.{eq-eqb, ne_eqb, le-leb, lt-leb}
@@ -19,7 +19,15 @@ use Rattle.wire.specs.declared.Data.TheVariants.{WriteLine, WriteOutputs, WriteP
 use Rattle.wire.specs.declared.Wire.{Wire}
 use Rattle.wire.specs.declared.Asked.{Asked}
 use Rattle.wire.specs.Collecting.{sent}
-use Rattle.wire.specs.Command.{char, special_in, data_in, in_format, read_command, write_command, command_in, command}
+use Rattle.wire.specs.Command.{char, has_address, special_in, data_in, in_format, read_command, write_command, command_in, command}
+
+-- the format of a read and of a write
+pub format_read : (cs : List ℕ) (overlong : Bool) → overlong ≡ false → char cs 0 ≡ code "C" → char cs 1 ≡ code "R" → in_format overlong cs ≡ has_address cs
+format_read cs overlong a b d = rw (a, eq-eqb _ _ b, eq-eqb _ _ d)
+
+pub format_write : (cs : List ℕ) (overlong : Bool) → overlong ≡ false → char cs 0 ≡ code "C" → (char cs 1 ≡ code "R" → ⊥)
+    → char cs 1 ≡ code "W" → in_format overlong cs ≡ has_address cs
+format_write cs overlong a b d e = rw (a, eq-eqb _ _ b, ne_eqb _ _ d, eq-eqb _ _ e)
 
 -- the whole command: too short, not in the format, a read or a write
 module _ (cs : List ℕ) (w : Wire) (mode : Mode) (parameter : ℕ) where
