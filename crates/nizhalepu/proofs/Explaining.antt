@@ -5,13 +5,14 @@ use native.Mathlib.Omega.{arith}
 use mathlib.Core.Path.{◌≡◌, refl, sym, ap, subst, ◌∙◌}
 use mathlib.Core.Logic.{◌≢◌, inl, inr}
 use mathlib.Core.List.{List}
+use Rattle.std.specs.Prelude.{Option, None, Some}
 use Rattle.formats.specs.Checks.{Res, refused, passed}
 use Rattle.formats.specs.Order.{First}
 use Rattle.lines.specs.declared.Line.TheVariants.{For}
 use Rattle.lines.specs.Program.{NoneFrom}
 use Rattle.running.specs.Gone.{HeldBy, LastState}
 use Rattle.explanation.specs.declared.Stop.{Stop}
-use Rattle.explanation.specs.Report.{Outcome, still_running, has_stopped, report, cause_number}
+use Rattle.explanation.specs.Report.{report, cause_number}
 use Rattle.explanation.specs.Reasons.{Reason, place}
 use Rattle.explanation.specs.Facts.{Fact, in_use, no_next, for_above, no_for, state_held, in_the_start, other, StillRuns}
 use Rattle.explanation.proofs.Explained.{stops_as_told, runs_as_told}
@@ -23,7 +24,7 @@ use Rattle.nizhalepu.specs.Stops.{explained_of, SaidFact, said006, said007, said
 
 module _ (p : List ℕ) (k o : ℕ) (s : Stop) where
   abbrev x : Explained
-  x = explained_of (passed (has_stopped s))
+  x = explained_of (passed (Some s))
 
   in_numbers : Fact p k o s → SaidFact p k o x
   in_numbers (in_use {c = c} {gone = gone} event is line way there how held) =
@@ -57,26 +58,26 @@ module _ (p : List ℕ) (k limit : ℕ) where
   pub refusal_so : (explained_of (report p k limit)).refusal ≢ 0 → First place (Reason p k limit) (explained_of (report p k limit)).refusal
   refusal_so some = go (report p k limit) refl some
     where
-      go : (r : Res Outcome) → report p k limit ≡ r → (explained_of r).refusal ≢ 0 → First place (Reason p k limit) (explained_of r).refusal
+      go : (r : Res (Option Stop)) → report p k limit ≡ r → (explained_of r).refusal ≢ 0 → First place (Reason p k limit) (explained_of r).refusal
       go (refused e) is some = refused_first p k limit e is
-      go (passed still_running) is some = absurd (some refl)
-      go (passed (has_stopped s)) is some = absurd (some refl)
+      go (passed None) is some = absurd (some refl)
+      go (passed (Some s)) is some = absurd (some refl)
 
   -- An event other than 0 stops the run by the rules so, at that tick, on that line, and for that cause, whatever the outputs at the start.
   pub said_so : (explained_of (report p k limit)).event ≢ 0 → (o : ℕ) → SaysSo p k o (explained_of (report p k limit))
   said_so some o = go (report p k limit) refl some
     where
-      go : (r : Res Outcome) → report p k limit ≡ r → (explained_of r).event ≢ 0 → SaysSo p k o (explained_of r)
+      go : (r : Res (Option Stop)) → report p k limit ≡ r → (explained_of r).event ≢ 0 → SaysSo p k o (explained_of r)
       go (refused e) is some = absurd (some refl)
-      go (passed still_running) is some = absurd (some refl)
-      go (passed (has_stopped s)) is some =
+      go (passed None) is some = absurd (some refl)
+      go (passed (Some s)) is some =
           let so = stops_as_told p k limit s is o in record { ends = so.ends; there = so.there; fact = in_numbers p k o s so.fact }
 
   -- With neither the program still runs, up to the limit.
   pub still_so : (explained_of (report p k limit)).refusal ≡ 0 → (explained_of (report p k limit)).event ≡ 0 → (o : ℕ) → StillRuns p k o limit
   still_so none no_event o = go (report p k limit) refl none no_event
     where
-      go : (r : Res Outcome) → report p k limit ≡ r → (explained_of r).refusal ≡ 0 → (explained_of r).event ≡ 0 → StillRuns p k o limit
+      go : (r : Res (Option Stop)) → report p k limit ≡ r → (explained_of r).refusal ≡ 0 → (explained_of r).event ≡ 0 → StillRuns p k o limit
       go (refused e) is none no_event = absurd (zero_not_told p k limit (is ∙ ap refused none))
-      go (passed still_running) is none no_event = runs_as_told p k limit is o
-      go (passed (has_stopped s)) is none no_event = absurd (some_event p k o s (stops_as_told p k limit s is o).fact no_event)
+      go (passed None) is none no_event = runs_as_told p k limit is o
+      go (passed (Some s)) is none no_event = absurd (some_event p k o s (stops_as_told p k limit s is o).fact no_event)

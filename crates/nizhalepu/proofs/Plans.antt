@@ -2,28 +2,13 @@
 -- Assumes nothing.
 use Prim.Native.Nat.{ℕ}
 use mathlib.Core.Path.{◌≡◌, refl, sym, ap, ◌∙◌}
-use mathlib.Core.Bool.{Bool, true, false, true≢false}
 use mathlib.Core.List.{List}
 use Rattle.formats.specs.Checks.{Res, refused, passed, refusal_of}
-use Rattle.planner.specs.declared.Answer.{Answer}
-use Rattle.planner.specs.declared.Answer.TheVariants.{Written, Refused}
 use Rattle.planner.specs.Plan.{moves_of}
 use Rattle.planner.specs.Lines.{program_of}
-use Rattle.planner.specs.Planned.{planned, answer_of}
+use Rattle.planner.specs.Planned.{planned}
 use Rattle.planner.proofs.Refusing.{zero_not_told}
 use Rattle.planner.proofs.Planning.{program_is}
-
-abbrev is_written : Answer → Bool
-is_written Written = true
-is_written (Refused e) = false
-
-abbrev number : Answer → ℕ
-number Written = 0
-number (Refused e) = e
-
-pub written_so : (r : Res (List ℕ)) {a : Answer} → a ≡ answer_of r → a ≡ Written → 0 ≡ refusal_of r
-written_so (refused e) is so = absurd (true≢false (sym (ap is_written (sym is ∙ so))))
-written_so (passed p) is so = refl
 
 -- So where C is given 0, the program of the plan was written.
 pub zero_written : (ns area : List ℕ) → 0 ≡ refusal_of (planned ns area) → planned ns area ≡ passed (program_of (moves_of ns))
@@ -32,7 +17,3 @@ zero_written ns area is = go (planned ns area) refl
     go : (r : Res (List ℕ)) → planned ns area ≡ r → planned ns area ≡ passed (program_of (moves_of ns))
     go (refused e) so = absurd (zero_not_told ns area (so ∙ ap refused (sym (is ∙ ap refusal_of so))))
     go (passed p) so = so ∙ ap passed (program_is ns area p so)
-
-pub refused_plan : (r : Res (List ℕ)) {a : Answer} {e : ℕ} → a ≡ answer_of r → a ≡ Refused e → e ≡ refusal_of r
-refused_plan (refused n) is so = ap number (sym so ∙ is)
-refused_plan (passed p) is so = absurd (true≢false (ap is_written (sym is ∙ so)))

@@ -1,5 +1,5 @@
 -- How the report of a stop is passed to C: a number for each part, and what these numbers have to be.
-use Rattle.std.specs.Prelude.{ℕ, suc, ◌+◌, ◌<◌, ◌≡◌, ◌≢◌, ◌⊎◌, true, List}
+use Rattle.std.specs.Prelude.{ℕ, suc, ◌+◌, ◌<◌, ◌≡◌, ◌≢◌, ◌⊎◌, true, Option, Some, None, List}
 use Rattle.formats.specs.Checks.{Res, refused, passed}
 use Rattle.lines.specs.declared.Line.TheVariants.{For, Next}
 use Rattle.lines.specs.Program.{line_at, NoneFrom}
@@ -8,15 +8,16 @@ use Rattle.running.specs.declared.How.TheVariants.{Ends}
 use Rattle.running.specs.Running.{begun, is_for_or_next, step, start}
 use Rattle.running.specs.Ticking.{after, EndsAfter}
 use Rattle.running.specs.Gone.{Gone, HeldBy, LoopLines, LastState}
-use Rattle.explanation.specs.Report.{Outcome, still_running, has_stopped, cause_number}
+use Rattle.explanation.specs.declared.Stop.{Stop}
+use Rattle.explanation.specs.Report.{cause_number}
 use Rattle.nizhalepu.specs.declared.Explained.{Explained}
 
 -- Refusal 0, which is no refusal's number (`explanation/Refusing.zero_not_told`), says that there is none; event 0, which no stop has
 -- (`nizhalepu/Explaining.said_so`), that none stopped the program: it is refused or still runs, and the cause is 255, for none.
-abbrev pub explained_of : Res Outcome → Explained
+abbrev pub explained_of : Res (Option Stop) → Explained
 explained_of (refused e) = record { tick = 0; refusal = e; event = 0; line = 0; cause = 255 }
-explained_of (passed still_running) = record { tick = 0; refusal = 0; event = 0; line = 0; cause = 255 }
-explained_of (passed (has_stopped s)) = record { tick = s.tick; refusal = 0; event = s.event; line = s.line; cause = cause_number s.cause }
+explained_of (passed None) = record { tick = 0; refusal = 0; event = 0; line = 0; cause = 255 }
+explained_of (passed (Some s)) = record { tick = s.tick; refusal = 0; event = s.event; line = s.line; cause = cause_number s.cause }
 
 -- The cause as a number is a fact of the run that a start at line k begins with the outputs o (`explanation/Facts.Fact`, in numbers).
 pub data SaidFact (p : List ℕ) (k o : ℕ) (x : Explained) : Type 0 where

@@ -23,7 +23,6 @@ ghost use Rattle.channels.specs.Bringing.{bringing, answer_of, records_of};
 
 use calls::SwitchBox;
 use channels::{Beside, Channel};
-use duration::Answer;
 use formats::Numbered;
 
 // What a call says; the state stays in the record.
@@ -157,10 +156,12 @@ pub struct Duration {
 pub extern "C" fn nizhalepu_duration(program: &[u8]) -> Duration
     ensures duration { result ≡ duration_of (report program.now) }
 {
-    let answer = duration::report(program);
-    match answer {
-        Answer::Takes(ticks) => Duration { refusal: 0, ticks },
-        Answer::Refused(refusal) => Duration { refusal, ticks: 0 },
+    match duration::report(program) {
+        Ok(ticks) => Duration { refusal: 0, ticks },
+        Err(e) => Duration {
+            refusal: e.number(),
+            ticks: 0,
+        },
     }
 }
 
@@ -185,32 +186,28 @@ pub struct Explained {
 pub extern "C" fn nizhalepu_explain(program: &[u8], start: u64, limit: u64) -> Explained
     ensures explained { result ≡ explained_of (stop_report program.now start limit) }
 {
-    let answer = explanation::report(program, start, limit);
-    match answer {
-        explanation::Answer::Refused(refusal) => Explained {
-            tick: 0,
-            refusal,
-            event: 0,
-            line: 0,
-            cause: 255,
+    match explanation::report(program, start, limit) {
+        Ok(Some(stop)) => Explained {
+            tick: stop.tick,
+            refusal: 0,
+            event: stop.event,
+            line: stop.line,
+            cause: stop.cause.map_or(255, u8::from),
         },
-        explanation::Answer::Running => Explained {
+        Ok(None) => Explained {
             tick: 0,
             refusal: 0,
             event: 0,
             line: 0,
             cause: 255,
         },
-        explanation::Answer::Stopped(stop) => {
-            let cause = stop.cause;
-            Explained {
-                tick: stop.tick,
-                refusal: 0,
-                event: stop.event,
-                line: stop.line,
-                cause: cause.number(),
-            }
-        }
+        Err(e) => Explained {
+            tick: 0,
+            refusal: e.number(),
+            event: 0,
+            line: 0,
+            cause: 255,
+        },
     }
 }
 
@@ -220,10 +217,9 @@ pub extern "C" fn nizhalepu_plan(plan: &[u32], program: &mut [u8]) -> u8
     ensures refusal { result ≡ refusal_of (planned plan.now program.old) }
     ensures area { program.new ≡ area_of (planned plan.now program.old) program.old }
 {
-    let answer = planner::write(plan, program);
-    match answer {
-        planner::Answer::Written => 0,
-        planner::Answer::Refused(refusal) => refusal,
+    match planner::write(plan, program) {
+        Ok(()) => 0,
+        Err(e) => e.number(),
     }
 }
 
