@@ -2,21 +2,22 @@
 -- Assumes nothing.
 use Prim.Native.Nat.{ℕ, ◌+◌, ◌*◌, ◌-◌, ◌≤◌}
 use native.Mathlib.Omega.{arith}
-use mathlib.Core.Path.{◌≡◌, refl, sym, ap, subst, ◌∙◌}
-use mathlib.Core.Bool.{Bool, true}
-use mathlib.Core.List.{List, [], ◌∷◌}
+use mathlib.Core.Path.{◌≡◌, refl, sym, ap, ◌∙◌}
+use mathlib.Core.Bool.{Bool, true, false}
+use mathlib.Core.List.{List, [], ◌∷◌, ◌++◌}
 use lib.ListN.{length, length-append, length-replicate}
+use Rattle.std.specs.Prelude.{if◌then◌else◌}
 use Rattle.formats.specs.Checks.{Res, refused, passed, all}
-use Rattle.formats.proofs.Checks.{both_passed, rule_holds, passed_same}
+use Rattle.formats.specs.Digits.{error_text}
+use Rattle.formats.proofs.Checks.{both_passed, rule_holds, not_passed, refused_same, passed_same}
 use Rattle.planner.specs.declared.Move.{Move}
-use Rattle.planner.specs.declared.Answer.{Answer}
 use Rattle.planner.specs.Plan.{moves_of, is_timed}
 use Rattle.planner.specs.Lines.{plan_lines, program_lines, program_of}
-use Rattle.planner.specs.Planned.{is_counted, planned, answer_of, area_of}
+use Rattle.planner.specs.Planned.{is_counted, planned, answered, area_of}
 use Rattle.planner.proofs.Moves.{counted_is}
 use Rattle.planner.proofs.Laying.{length_laid}
 use Rattle.planner.proofs.Found.{plan_few}
-use Rattle.plan.specs.Telling.{told_of, answer_text, Taken, told, zeros}
+use Rattle.plan.specs.Telling.{line_end, table, told_of, told, zeros}
 
 -- a plan that is taken
 pub record Passed (ns p : List ℕ) : Type 0 where
@@ -36,23 +37,42 @@ passed_is ns area p so =
       program = sym (passed_same c.1);
     }
 
-pub taken : (ns area : List ℕ) {a : Answer} → a ≡ answer_of (planned ns area) → Taken ns a
-taken ns area is = subst (Taken ns) (sym is) (go (planned ns area) refl)
-  where
-    go : (r : Res (List ℕ)) → planned ns area ≡ r → Taken ns (answer_of r)
-    go (refused e) so = tt
-    go (passed p) so = (passed_is ns area p so).counted
+-- ---- the answer, and the area that it leaves
 
--- the answer, and the area that it leaves
-pub answer_told : (check : Bool) (ns : List ℕ) {a : Answer} {left : List ℕ} → a ≡ answer_of (planned ns zeros) → left ≡ area_of (planned ns zeros) zeros
-    → answer_text check (moves_of ns) left a ≡ told check ns
+-- a plan that is refused
+pub refusal_told : (check : Bool) (ns : List ℕ) {e : ℕ} → refused e ≡ answered (planned ns zeros) → error_text e ++ line_end ≡ told check ns
 unfolding told
-answer_told check ns {a} {left} is area =
-    ap (λ x. answer_text check (moves_of ns) left x) is ∙ ap (λ p. answer_text check (moves_of ns) p (answer_of (planned ns zeros))) area ∙ go (planned ns zeros)
+refusal_told check ns {e} is = go (planned ns zeros) is
   where
-    go : (r : Res (List ℕ)) → answer_text check (moves_of ns) (area_of r zeros) (answer_of r) ≡ told_of check (moves_of ns) r
-    go (refused e) = refl
-    go (passed p) = refl
+    go : (r : Res (List ℕ)) → refused e ≡ answered r → error_text e ++ line_end ≡ told_of check (moves_of ns) r
+    go (refused n) so = ap (λ x. error_text x ++ line_end) (refused_same so)
+    go (passed p) so = absurd (not_passed so)
+
+-- one that is taken
+pub taken : (ns area : List ℕ) → passed tt ≡ answered (planned ns area) → is_counted ns ≡ true
+taken ns area is = go (planned ns area) refl is
+  where
+    go : (r : Res (List ℕ)) → planned ns area ≡ r → passed tt ≡ answered r → is_counted ns ≡ true
+    go (refused n) so none = absurd (not_passed (sym none))
+    go (passed p) so is = (passed_is ns area p so).counted
+
+taken_told : (check : Bool) (ns : List ℕ) {left : List ℕ} → passed tt ≡ answered (planned ns zeros) → left ≡ area_of (planned ns zeros) zeros
+    → (if check then table (moves_of ns) else left) ≡ told check ns
+unfolding told
+taken_told check ns {left} is area = go (planned ns zeros) is area
+  where
+    go : (r : Res (List ℕ)) → passed tt ≡ answered r → left ≡ area_of r zeros → (if check then table (moves_of ns) else left) ≡ told_of check (moves_of ns) r
+    go (refused n) none so = absurd (not_passed (sym none))
+    go (passed p) is so = ap (λ x. if check then table (moves_of ns) else x) so
+
+-- its table
+pub table_told : {check : Bool} (ns : List ℕ) → check ≡ true → passed tt ≡ answered (planned ns zeros) → table (moves_of ns) ≡ told check ns
+table_told {check} ns so is = rw so (taken_told true ns is refl)
+
+-- its program
+pub program_told : {check : Bool} (ns : List ℕ) {left : List ℕ} → check ≡ false → passed tt ≡ answered (planned ns zeros)
+    → left ≡ area_of (planned ns zeros) zeros → left ≡ told check ns
+program_told {check} ns so is area = rw so (taken_told false ns is area)
 
 -- ---- how long
 

@@ -7,6 +7,7 @@ use mathlib.Core.Bool.{Bool, true, false, ◌&&◌}
 use mathlib.Core.List.{List, [], ◌∷◌, ◌++◌, map}
 use lib.ListN.{length, length-map}
 use borrow.Author.Tests.{lt-ltb}
+use Rattle.std.specs.Prelude.{None, Some}
 use Rattle.formats.specs.Checks.{passed, all}
 use Rattle.formats.proofs.Checks.{both_true}
 use Rattle.formats.specs.Digits.{number}
@@ -17,6 +18,7 @@ use Rattle.planner.specs.ByTheRule.{CarriesOut}
 use Rattle.planner.proofs.Moves.{time_is}
 use Rattle.planner.proofs.Planning.{carried_out}
 use Rattle.plantext.specs.Text.{hex_value, is_digit_to, Word, OnLine, nothing, move, Says, last, line}
+use Rattle.plantext.specs.declared.Fault.{Fault}
 use Rattle.plantext.specs.declared.Reader.{Reader}
 use Rattle.plantext.specs.Faults.{Wrong}
 use Rattle.plantext.specs.Kept.{kept}
@@ -59,30 +61,30 @@ told_said check says = told_kept check (says_worded says)
 
 -- A text that is a plan has no fault, and is told as it says.
 pub told_as_said : (check : Bool) {text ns : List ℕ} {r : Reader} → Says text ns → r ≡ reader_of text
-    → (r.fault ≡ 0) × (told check (numbers_of r) ≡ told check ns)
+    → (r.fault ≡ None) × (told check (numbers_of r) ≡ told check ns)
 told_as_said check {text} {ns} says is =
     let read = said_so_read text ns says in
-    rw is (read.fault, ap (told check) read.moves ∙ told_said check says)
+    rw is (read.fault, ap (told check) read.numbers ∙ told_said check says)
 
 -- A text that is none has a fault, and its line and that fault are told. The largest number of eight bytes stands for every line behind it.
-pub wrong_as_told : {text : List ℕ} {n e : ℕ} {r : Reader} → Wrong text n e → r ≡ reader_of text
-    → (r.fault ≡ e) × (fault_lines r.line r.fault ≡ fault_lines (min n 18446744073709551615) e)
+pub wrong_as_told : {text : List ℕ} {n : ℕ} {e : Fault} {r : Reader} → Wrong text n e → r ≡ reader_of text
+    → (r.fault ≡ Some e) × (fault_lines r.line e ≡ fault_lines (min n 18446744073709551615) e)
 wrong_as_told {text} {n} {e} wrong is =
     let read = wrong_so_told text n e wrong in
-    rw is (read.fault, ap (λ l. fault_lines l (reader_of text).fault) read.line ∙ ap (fault_lines (min n 18446744073709551615)) read.fault)
+    rw is (read.fault, ap (λ l. fault_lines l e) read.line)
 
 -- and nothing else is told: without a fault, what some text says
-pub read_as_said : (check : Bool) {r : Reader} (f : ReadFrom r) → r.fault ≡ 0
+pub read_as_said : (check : Bool) {r : Reader} (f : ReadFrom r) → r.fault ≡ None
     → (ns : List ℕ) × Says f.text ns × (told check (numbers_of r) ≡ told check ns)
 read_as_said check {r} f clear =
     let said = read_so_said f.text (sym (ap (λ x. x.fault) f.read) ∙ clear) in
     (said.numbers, said.says, (told_as_said check said.says f.read).1)
 
 -- and with one, what is wrong with it
-pub fault_as_wrong : {r : Reader} (f : ReadFrom r) → (r.fault ≡ 0 → ⊥) → (n : ℕ) × Wrong f.text n r.fault × (r.line ≡ min n 18446744073709551615)
-fault_as_wrong {r} f some =
-    let is = told_so_wrong f.text (λ clear. some (ap (λ x. x.fault) f.read ∙ clear)) in
-    (is.line, subst (Wrong f.text is.line) (sym (ap (λ x. x.fault) f.read)) is.wrong, ap (λ x. x.line) f.read ∙ is.told)
+pub fault_as_wrong : {r : Reader} (f : ReadFrom r) (e : Fault) → r.fault ≡ Some e → (n : ℕ) × Wrong f.text n e × (r.line ≡ min n 18446744073709551615)
+fault_as_wrong {r} f e some =
+    let is = told_so_wrong f.text e (sym (ap (λ x. x.fault) f.read) ∙ some) in
+    (is.line, is.wrong, ap (λ x. x.line) f.read ∙ is.told)
 
 -- ---- what the program does
 

@@ -8,6 +8,7 @@ use Rattle.formats.specs.Checks.{text, ◌>>◌, ◌or_else◌}
 use Rattle.formats.specs.Digits.{digits, shown, width, error_text}
 use Rattle.planner.specs.Plan.{moves_of}
 use Rattle.planner.specs.Planned.{planned}
+use Rattle.plantext.specs.declared.Fault.TheVariants.{NoWord, Behind}
 use Rattle.plan.specs.Telling.{line_end, clock, ticks, clocks, stretch, move_line, total_line, table_from, told, fault_text, move_form, fault_lines}
 
 -- ---- minutes and seconds
@@ -42,10 +43,10 @@ no_time = (refl, refl)
 
 -- ---- the messages
 
-messages_told : (fault_lines 1 1
+messages_told : (fault_lines 1 NoWord
     ≡ text "line 1: the word of the move is not eight hex digits" ++ (10
     ∷ (text "a move is WORD SETTLING WORD READING: words of eight hex digits, times in decimal ticks" ++ line_end)))
-    × (fault_lines 1200 8
+    × (fault_lines 1200 Behind
     ≡ text "line 1200: something stands behind the reading time" ++ (10
     ∷ (text "a move is WORD SETTLING WORD READING: words of eight hex digits, times in decimal ticks" ++ line_end)))
 unfolding fault_lines fault_text move_form text digits shown width

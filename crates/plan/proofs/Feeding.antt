@@ -1,7 +1,8 @@
 -- What was read, one piece behind the other.
 -- Assumes nothing.
 use mathlib.Core.Path.{◌≡◌, refl, sym, ap, ◌∙◌}
-use mathlib.Core.List.{[], ◌++◌}
+use Prim.Native.Nat.{ℕ}
+use mathlib.Core.List.{List, [], ◌++◌}
 use Rattle.plantext.specs.declared.Reader.{Reader}
 use Rattle.plantext.specs.Reading.{begin, fed, ended, reader_of}
 use Rattle.plantext.proofs.Feeding.{fed_pieces}
@@ -12,10 +13,9 @@ pub read_none : (r : Reader) → ReadOn r r
 unfolding fed
 read_none r = record { bytes = []; read = refl }
 
--- nothing at all
-pub read_begins : {r : Reader} → r ≡ begin → ReadOn begin r
-unfolding fed
-read_begins is = record { bytes = []; read = is }
+-- some bytes
+pub read_fed : {q r : Reader} (bytes : List ℕ) → r ≡ fed q bytes → ReadOn q r
+read_fed bytes is = record { bytes = bytes; read = is }
 
 -- one behind the other
 pub read_more : {q m r : Reader} → ReadOn q m → ReadOn m r → ReadOn q r

@@ -3,18 +3,18 @@
 use Prim.Native.Nat.{ℕ, ◌+◌, ◌*◌, ◌/◌, ◌%◌}
 use native.Mathlib.Omega.{arith}
 use mathlib.Core.Path.{◌≡◌, refl, ap}
-use mathlib.Core.Bool.{Bool}
+use mathlib.Core.Bool.{Bool, true}
 use mathlib.Core.List.{List, [], ◌∷◌}
 use lib.ListN.{length}
-use lib.Dec.{eqb}
 use Rattle.formats.specs.Checks.{Res, refused, passed, text}
 use Rattle.formats.proofs.Checks.{if_case}
-use Rattle.streams.specs.declared.Output.{Output}
-use Rattle.streams.specs.Gathering.{gathered, Follows}
+use Rattle.streams.specs.Gathering.{Waiting, nothing_gathered, Follows}
 use Rattle.streams.proofs.Within.{Within, lit, one_within, both, room, decimal_within, digits_within, error_within, waits_whole}
 use Rattle.planner.specs.declared.Move.{Move}
 use Rattle.planner.specs.Plan.{moves_of}
 use Rattle.planner.specs.Planned.{planned}
+use Rattle.plantext.specs.declared.Fault.{Fault}
+use Rattle.plantext.specs.declared.Fault.TheVariants.{NoWord, NoSettling, NoReadingWord, NoReading, SettlingMissing, ReadingWordMissing, ReadingMissing, Behind}
 use Rattle.plan.specs.Telling.{clock, ticks, clocks, stretch, move_line, total_line, table_from}
 use Rattle.plan.specs.Telling.{told_of, told, zeros, fault_text, move_form, fault_lines}
 use Rattle.plan.proofs.Answers.{passed_is, counted_few, program_long}
@@ -74,25 +74,23 @@ told_within check ns = go (planned ns zeros) refl
         (λ _. record { fits = omega (arith, program_long (moves_of ns) few, ap length is.program) })
 
 -- In a block of 4096 bytes, of which none wait, what is told waits whole, and no write has failed.
-pub told_whole : (check : Bool) (ns : List ℕ) {o r : Output} {block block' : List ℕ} → length block ≡ 4096 → gathered o block ≡ []
-    → Follows o block (told check ns) r block' → (gathered r block' ≡ told check ns) × (r.open ≡ o.open)
-told_whole check ns {block = block} size none f = waits_whole {block = block} (told_within check ns) (omega (arith, size)) none f
+pub told_whole : (check : Bool) (ns : List ℕ) {r : Waiting} → Follows 4096 nothing_gathered (told check ns) r → (r.waits ≡ told check ns) × (r.open ≡ true)
+told_whole check ns f = waits_whole (told_within check ns) (omega arith) f
 
 -- ---- a text that is no plan
 
-fault_within : (e : ℕ) → Within 60 (fault_text e)
+fault_within : (e : Fault) → Within 60 (fault_text e)
 unfolding fault_text text
-fault_within e =
-    if_case (Within 60) (eqb e 1) (λ _. room 60 (lit "the word of the move is not eight hex digits") (omega arith)) λ _.
-    if_case (Within 60) (eqb e 2) (λ _. room 60 (lit "the settling time is not a decimal number") (omega arith)) λ _.
-    if_case (Within 60) (eqb e 3) (λ _. room 60 (lit "the word of the reading is not eight hex digits") (omega arith)) λ _.
-    if_case (Within 60) (eqb e 4) (λ _. room 60 (lit "the reading time is not a decimal number") (omega arith)) λ _.
-    if_case (Within 60) (eqb e 5) (λ _. room 60 (lit "the settling time is missing") (omega arith)) λ _.
-    if_case (Within 60) (eqb e 6) (λ _. room 60 (lit "the word of the reading is missing") (omega arith)) λ _.
-    if_case (Within 60) (eqb e 7) (λ _. room 60 (lit "the reading time is missing") (omega arith))
-    (λ _. room 60 (lit "something stands behind the reading time") (omega arith))
+fault_within NoWord = room 60 (lit "the word of the move is not eight hex digits") (omega arith)
+fault_within NoSettling = room 60 (lit "the settling time is not a decimal number") (omega arith)
+fault_within NoReadingWord = room 60 (lit "the word of the reading is not eight hex digits") (omega arith)
+fault_within NoReading = room 60 (lit "the reading time is not a decimal number") (omega arith)
+fault_within SettlingMissing = room 60 (lit "the settling time is missing") (omega arith)
+fault_within ReadingWordMissing = room 60 (lit "the word of the reading is missing") (omega arith)
+fault_within ReadingMissing = room 60 (lit "the reading time is missing") (omega arith)
+fault_within Behind = room 60 (lit "something stands behind the reading time") (omega arith)
 
-lines_within : (line e : ℕ) → Within 200 (fault_lines line e)
+lines_within : (line : ℕ) (e : Fault) → Within 200 (fault_lines line e)
 unfolding fault_lines move_form text
 lines_within line e =
     room 200
@@ -104,6 +102,5 @@ lines_within line e =
     (both (lit "a move is WORD SETTLING WORD READING: words of eight hex digits, times in decimal ticks") (one_within 10)))))))
     (omega arith)
 
-pub fault_whole : (line e : ℕ) {o r : Output} {block block' : List ℕ} → length block ≡ 4096 → gathered o block ≡ []
-    → Follows o block (fault_lines line e) r block' → gathered r block' ≡ fault_lines line e
-fault_whole line e size none f = (waits_whole (lines_within line e) (omega (arith, size)) none f).0
+pub fault_whole : (line : ℕ) (e : Fault) {r : Waiting} → Follows 4096 nothing_gathered (fault_lines line e) r → r.waits ≡ fault_lines line e
+fault_whole line e f = (waits_whole (lines_within line e) (omega arith) f).0

@@ -5,8 +5,7 @@ use native.Mathlib.Omega.{arith}
 use mathlib.Core.Path.{◌≡◌, sym, ap, subst, ◌∙◌}
 use mathlib.Core.List.{List, [], ◌∷◌, ◌++◌, append_assoc}
 use lib.ListN.{length, drop}
-use Rattle.streams.specs.declared.Output.{Output}
-use Rattle.streams.specs.Gathering.{Follows}
+use Rattle.streams.specs.Gathering.{Waiting, Follows}
 use Rattle.streams.proofs.Following.{follows_more}
 use Rattle.planner.specs.declared.Move.{Move}
 use Rattle.planner.specs.Plan.{move_at, moves_of, move_ticks, total}
@@ -16,32 +15,30 @@ use Rattle.plan.specs.Telling.{move_line, total_line, table_from, table}
 -- ---- the loop over moves
 
 -- The moves before number k are told, and the next begins at tick `at`: with the table from there on the table of the plan is whole.
-pub record Tells (ns : List ℕ) (first : Output) (before : List ℕ) (k at : ℕ) (o : Output) (block : List ℕ) : Type 0 where
-  pub rest : {r : Output} {after : List ℕ} → Follows o block (table_from k at (moves_of (drop (4 * k) ns))) r after
-      → Follows first before (table (moves_of ns)) r after
+pub record Tells (size : ℕ) (ns : List ℕ) (first : Waiting) (k at : ℕ) (o : Waiting) : Type 0 where
+  pub rest : {r : Waiting} → Follows size o (table_from k at (moves_of (drop (4 * k) ns))) r → Follows size first (table (moves_of ns)) r
 
-pub table_begins : (ns : List ℕ) (o : Output) (block : List ℕ) → Tells ns o block 0 0 o block
-table_begins ns o block = record { rest = λ f. f }
+pub table_begins : (size : ℕ) (ns : List ℕ) (o : Waiting) → Tells size ns o 0 0 o
+table_begins size ns o = record { rest = λ f. f }
 
-module _ {ns : List ℕ} {first : Output} {before : List ℕ} {k at : ℕ} {o : Output} {block : List ℕ} (t : Tells ns first before k at o block) where
+module _ {size : ℕ} {ns : List ℕ} {first : Waiting} {k at : ℕ} {o : Waiting} (t : Tells size ns first k at o) where
   -- one line more
-  pub table_on : {next : ℕ} {o' : Output} {block' : List ℕ} {m : Move} → 4 * k + 4 ≤ length ns → m ≡ move_at ns k
-      → next ≡ at + m.settling + m.reading → Follows o block (move_line k at m) o' block' → Tells ns first before (k + 1) next o' block'
+  pub table_on : {next : ℕ} {o' : Waiting} {m : Move} → 4 * k + 4 ≤ length ns → m ≡ move_at ns k
+      → next ≡ at + m.settling + m.reading → Follows size o (move_line k at m) o' → Tells size ns first (k + 1) next o'
   unfolding table_from
-  table_on {next} {o'} {block'} {m} room is ticks line =
-      let so : moves_of (drop (4 * k) ns) ≡ m ∷ moves_of (drop (4 * (k + 1)) ns) =
-      moves_on ns k room ∙ ap (λ x. x ∷ moves_of (drop (4 * (k + 1)) ns)) (sym is) in
+  table_on {next} {o'} {m} room is ticks line =
+      let later : List Move = moves_of (drop (4 * (k + 1)) ns) in
+      let so : moves_of (drop (4 * k) ns) ≡ m ∷ later = moves_on ns k room ∙ ap (λ x. x ∷ later) (sym is) in
       record {
-        rest = λ {r} {after} f.
-            t.rest (subst (λ ms. Follows o block (table_from k at ms) r after) (sym so)
-            (follows_more line (subst (λ n. Follows o' block' (table_from (k + 1) n (moves_of (drop (4 * (k + 1)) ns))) r after) ticks f)));
+        rest = λ {r} f.
+            t.rest (subst (λ ms. Follows size o (table_from k at ms) r) (sym so)
+            (follows_more line (subst (λ n. Follows size o' (table_from (k + 1) n later) r) ticks f)));
       }
 
   -- the total
-  pub table_over : {r : Output} {after : List ℕ} → length ns ≤ 4 * k → Follows o block (total_line at) r after
-      → Follows first before (table (moves_of ns)) r after
+  pub table_over : {r : Waiting} → length ns ≤ 4 * k → Follows size o (total_line at) r → Follows size first (table (moves_of ns)) r
   unfolding table_from
-  table_over {r} {after} over f = t.rest (subst (λ ms. Follows o block (table_from k at ms) r after) (sym (moves_over ns k over)) f)
+  table_over {r} over f = t.rest (subst (λ ms. Follows size o (table_from k at ms) r) (sym (moves_over ns k over)) f)
 
 -- ---- the total
 

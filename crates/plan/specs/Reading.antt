@@ -1,5 +1,5 @@
 -- What was read: some text. Which one, and that it is all that the file has, is in no contract, since what a read gives is in none.
-use Rattle.std.specs.Prelude.{ℕ, ◌*◌, List, [], ◌∷◌, ◌≡◌, take}
+use Rattle.std.specs.Prelude.{ℕ, List, [], ◌∷◌, ◌≡◌}
 use Rattle.planner.specs.Plan.{IsWord}
 use Rattle.plantext.specs.declared.Reader.{Reader}
 use Rattle.plantext.specs.Reading.{fed, reader_of}
@@ -16,7 +16,7 @@ pub record ReadFrom (r : Reader) : Type 0 where
 
 -- the numbers that a reader has of its moves
 abbrev pub numbers_of : Reader → List ℕ
-numbers_of r = take (4 * r.count) r.moves
+numbers_of r = r.numbers.items
 
 -- Numbers that a text says: those of whole moves, of which each word is of 32 bits, as eight hex digits are. A time may be any number.
 pub data Worded : List ℕ → Type 0 where

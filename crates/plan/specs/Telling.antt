@@ -2,15 +2,15 @@
 -- 02, item 10, asks for a plan and its program. What is told of it, for the program `plan`: "one line for each move with the ticks at which its settling and
 -- its reading begin and end, in ticks and in minutes and seconds, and the total: the table that the person at the trough lamps wants". 02, item 1: "a
 -- refusal is printed as E and three digits, here and later."
-use Rattle.std.specs.Prelude.{ℕ, ◌+◌, ◌/◌, ◌%◌, Bool, true, List, [], ◌∷◌, ◌++◌, ◌≡◌, replicate, eqb}
+use Rattle.std.specs.Prelude.{ℕ, ◌+◌, ◌/◌, ◌%◌, Bool, List, [], ◌∷◌, ◌++◌, replicate}
 use Rattle.std.specs.Prelude.{if◌then◌else◌}
 use Rattle.formats.specs.Checks.{Res, refused, passed, text}
 use Rattle.formats.specs.Digits.{shown, decimal, error_text}
 use Rattle.planner.specs.declared.Move.{Move}
-use Rattle.planner.specs.declared.Answer.{Answer}
-use Rattle.planner.specs.declared.Answer.TheVariants.{Written, Refused}
 use Rattle.planner.specs.Plan.{moves_of}
-use Rattle.planner.specs.Planned.{is_counted, planned}
+use Rattle.planner.specs.Planned.{planned}
+use Rattle.plantext.specs.declared.Fault.{Fault}
+use Rattle.plantext.specs.declared.Fault.TheVariants.{NoWord, NoSettling, NoReadingWord, NoReading, SettlingMissing, ReadingWordMissing, ReadingMissing, Behind}
 
 abbrev pub line_end : List ℕ
 line_end = 10 ∷ []
@@ -67,34 +67,23 @@ told_of check ms (passed program) = if check then table ms else program
 unfoldable pub told : Bool → List ℕ → List ℕ
 told check ns = told_of check (moves_of ns) (planned ns zeros)
 
--- the same by the code's answer, and the area that it leaves
-abbrev pub answer_text : Bool → List Move → List ℕ → Answer → List ℕ
-answer_text check ms program (Refused e) = error_text e ++ line_end
-answer_text check ms program Written = if check then table ms else program
-
--- what the code needs to read the moves of a plan that is taken
-abbrev pub Taken : List ℕ → Answer → Type 0
-Taken ns (Refused e) = Unit
-Taken ns Written = is_counted ns ≡ true
-
 -- ---- a text that is no plan
 
 -- docs/programs/plan.md, 'Refusals'
-unfoldable pub fault_text : ℕ → List ℕ
-fault_text e =
-    if eqb e 1 then text "the word of the move is not eight hex digits"
-    else if eqb e 2 then text "the settling time is not a decimal number"
-    else if eqb e 3 then text "the word of the reading is not eight hex digits"
-    else if eqb e 4 then text "the reading time is not a decimal number"
-    else if eqb e 5 then text "the settling time is missing"
-    else if eqb e 6 then text "the word of the reading is missing"
-    else if eqb e 7 then text "the reading time is missing"
-    else text "something stands behind the reading time"
+unfoldable pub fault_text : Fault → List ℕ
+fault_text NoWord = text "the word of the move is not eight hex digits"
+fault_text NoSettling = text "the settling time is not a decimal number"
+fault_text NoReadingWord = text "the word of the reading is not eight hex digits"
+fault_text NoReading = text "the reading time is not a decimal number"
+fault_text SettlingMissing = text "the settling time is missing"
+fault_text ReadingWordMissing = text "the word of the reading is missing"
+fault_text ReadingMissing = text "the reading time is missing"
+fault_text Behind = text "something stands behind the reading time"
 
 -- how a move is written
 unfoldable pub move_form : List ℕ
 move_form = text "a move is WORD SETTLING WORD READING: words of eight hex digits, times in decimal ticks"
 
 -- on standard error, the line and its fault, and behind it how a move is written
-unfoldable pub fault_lines : ℕ → ℕ → List ℕ
+unfoldable pub fault_lines : ℕ → Fault → List ℕ
 fault_lines line e = text "line " ++ (decimal line ++ (text ": " ++ (fault_text e ++ (line_end ++ (move_form ++ line_end)))))

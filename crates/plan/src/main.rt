@@ -3,107 +3,73 @@
 // What is told is in contracts, by specs/Telling.antt; which bytes were read, and which went out, is in none, since the library's have none.
 #![tactic(auto)]
 
+ghost use Rattle.std.specs.Prelude.{IfOk, ◌≡◌};
 ghost use Rattle.plantext.specs.Reading.{begin};
 ghost use Rattle.plan.specs.Reading.{ReadOn, ReadFrom};
 
 use plantext::Reader;
-use streams::input::Input;
+use streams::input::{Failed, Input};
 use streams::{Output, arguments};
 
 mod telling;
 
-// What was read, what is left of the input, and whether to read on.
-#[derive(Drop)]
-struct Progress {
-    input: Input,
-    reader: Reader,
-    on: bool,
-}
-
-// What was read, and whether something failed then.
-#[derive(Clone, Copy)]
-struct Text {
-    reader: Reader,
-    failed: bool,
-}
-
-// The next piece of the text. None is the end of the input, or a failure; behind a fault nothing more counts.
-fn turn(rt: &HostRuntime, input: Input, reader: Reader) -> Progress
-    ensures reads { ReadOn reader result.reader }
+// The next piece of the text is read, as far as there is one, and whether to read on: behind a fault nothing more counts.
+#[tactic(auto, using(crate::proofs::Feeding::read_none, crate::proofs::Feeding::read_fed))]
+fn turn(rt: &HostRuntime, input: &mut Input, reader: &mut Reader) -> Result<bool, Failed>
+    ensures reads { ReadOn reader.old reader.new }
 {
     let mut buffer = [0u8; 4096];
-    let p = input.piece(Output::new(rt), &[], &mut buffer);
-    let input = p.input;
-    let n = p.count;
+    let mut nothing = Output::<0>::new(rt);
+    let n = input.piece(&mut nothing, &mut buffer)?;
     if n == 0 {
-        return Progress {
-            input,
-            reader,
-            on: false,
-        };
+        return Ok(false);
     }
-    let reader = reader.fed(&buffer[..n]);
-    let on = reader.fault == 0;
-    Progress { input, reader, on }
+    reader.feed(&buffer[..n]);
+    Ok(reader.fault.is_none())
 }
 
-// Input to its end. A proved loop has to end, so it counts its turns down, from a number that no run uses up.
-fn turns(rt: &HostRuntime, input: Input) -> Progress
-    ensures reads { ReadOn begin result.reader }
+// Input to its end, or to a fault. A proved loop has to end, and no run uses up so many turns.
+#[tactic(auto, using(crate::proofs::Feeding::read_none, crate::proofs::Feeding::read_more))]
+fn turns(rt: &HostRuntime, input: &mut Input, reader: &mut Reader) -> Result<(), Failed>
+    ensures reads { ReadOn reader.old reader.new }
 {
-    let reader = plantext::begin();
-    let mut n = Progress {
-        input,
-        reader,
-        on: true,
-    };
-    let mut left = u64::MAX;
-    while left > 0 {
-        n = turn(rt, n.input, n.reader);
-        if !n.on {
-            return n;
+    for _ in 0..u64::MAX {
+        if !turn(rt, input, reader)? {
+            return Ok(());
         }
-        left -= 1;
     }
-    n
+    Ok(())
 }
 
-// The text of the input.
-fn read(rt: &HostRuntime, input: Input) -> Text
-    ensures reads { ReadFrom result.reader }
+// The text of the file that argument i names, or of standard input.
+#[tactic(auto, using(crate::proofs::Feeding::read_over))]
+fn read(rt: &HostRuntime, i: usize) -> Result<Reader, Failed>
+    ensures reads { IfOk result ReadFrom }
 {
-    let n = turns(rt, input);
-    let reader = n.reader.ended();
-    Text {
-        reader,
-        failed: n.input.failed,
-    }
+    let mut input = Input::from(rt, i)?;
+    let mut reader = plantext::begin();
+    turns(rt, &mut input, &mut reader)?;
+    Ok(reader.ended())
 }
 
 // What is told of a text that was read.
-fn tell(rt: &HostRuntime, reader: Reader, check: bool) {
-    let mut block = [0u8; 4096];
-    if reader.fault != 0 {
-        let message = telling::fault_whole(rt, &mut block, reader.line, reader.fault);
-        message.said(&block);
-        return;
+fn tell(rt: &HostRuntime, reader: &Reader, check: bool) {
+    match reader.fault {
+        Some(fault) => telling::fault_whole(rt, reader.line, fault).say(),
+        None => {
+            let mut output = telling::told_read(rt, reader, check);
+            output.flush();
+        }
     }
-    let output = telling::told_read(rt, &mut block, reader, check);
-    output.flushed(&block);
 }
 
 fn main(rt: HostRuntime) {
     let check = arguments::is(&rt, 1, b"--check");
-    let mut from: usize = 1;
-    if check {
-        from = 2;
-    }
+    let from = if check { 2 } else { 1 };
     if !arguments::fit(&rt, from, 1, b"plan [--check] [FILE]") {
         return;
     }
-    let t = read(&rt, Input::from(&rt, from));
-    if t.failed {
-        return;
+    if let Ok(reader) = read(&rt, from) {
+        tell(&rt, &reader, check);
     }
-    tell(&rt, t.reader, check);
 }
