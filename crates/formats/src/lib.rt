@@ -4,7 +4,8 @@
 // below stand for, specs/Writing.antt for what writing into an area leaves there.
 #![tactic(auto)]
 
-ghost use Rattle.std.specs.Prelude.{◌≡◌, [], ◌∷◌, ◌++◌, ℕ, ◌+◌, ◌*◌, ◌≤◌, ◌<◌, min, length};
+ghost use Rattle.std.specs.Prelude.{◌≡◌, [], ◌∷◌, ◌++◌, ℕ, ◌+◌, ◌*◌, ◌≤◌, ◌<◌, min, length, IfSome};
+ghost use Rattle.std.specs.Option.{unwrap_or};
 ghost use Rattle.formats.specs.Errors.{number_of as number_of_error, distinct as distinct_errors};
 ghost use Rattle.formats.specs.Digits.{number, digit_value, digit_char, shown, number_in, h_in, d_in, width, most_digits, decimal, decimal_in, error_text};
 ghost use Rattle.formats.specs.Bytes.{bytes};
@@ -101,14 +102,15 @@ pub fn four_bytes(v: u32) -> [u8; 4]
 
 // ---- characters
 
-// The value of a digit's character; 16 for every other character.
-pub fn digit_value(c: u8) -> u8
-    ensures value { result ≡ digit_value c }
+// The value of a digit's character; no other character has one.
+pub fn digit_value(c: u8) -> Option<u8>
+    ensures value { unwrap_or result 16 ≡ digit_value c }
+    ensures digit { IfSome result (λ v. v < 16) }
 {
     match c {
-        b'0'..=b'9' => c - b'0',
-        b'A'..=b'F' => c - b'A' + 10,
-        _ => 16,
+        b'0'..=b'9' => Some(c - b'0'),
+        b'A'..=b'F' => Some(c - b'A' + 10),
+        _ => None,
     }
 }
 
@@ -127,7 +129,7 @@ pub fn number_in(cs: &[u8], base: u32) -> Option<u32>
 {
     let mut v: u32 = 0;
     for c in cs {
-        let d = digit_value(*c) as u32;
+        let d = digit_value(*c)? as u32;
         if base <= d {
             return None;
         }
@@ -170,7 +172,7 @@ pub fn decimal_in(cs: &[u8]) -> Option<u64>
     }
     let mut worth: u64 = 0;
     for c in cs {
-        let d = digit_value(*c) as u64;
+        let d = digit_value(*c)? as u64;
         if 10 <= d {
             return None;
         }
@@ -186,6 +188,7 @@ fn width(v: u64) -> usize
 {
     let mut n: usize = 1;
     let mut rest = v;
+    // Kept: the digits are counted as they are taken off, which no range does more plainly.
     while 10 <= rest {
         rest /= 10;
         n += 1;

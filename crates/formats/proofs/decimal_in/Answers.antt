@@ -12,12 +12,16 @@ pub loop-c-init : goal.loop-c-init
 loop-c-init c = kept_none _
 
 pub returns-then-d-ge10 : goal.returns-then-d-ge10
-returns-then-d-ge10 c = record { number = kept_bad _ _ _ _ c.loop-c-test.true c.loop-c.invariant c.digit_value-d.ensures.value c.if-d-ge10.true }
+returns-then-d-ge10 c = record { number = kept_bad _ _ _ _ c.loop-c-test.true c.loop-c.invariant c.in_ok-d.ensures.value c.if-d-ge10.true }
 
 pub loop-c-preserved : goal.loop-c-preserved
 loop-c-preserved c =
-    kept_more _ _ _ _ c.loop-c-test.true c.loop-c.invariant c.digit_value-d.ensures.value c.if-d-ge10.false
+    kept_more _ _ _ _ c.loop-c-test.true c.loop-c.invariant c.in_ok-d.ensures.value c.if-d-ge10.false
     (omega (arith, c.saturating_add-worth.ensures, c.saturating_mul.ensures))
 
 pub returns : goal.returns
 returns c = record { number = kept_all _ _ _ (search rules) (search rules) c.loop-c.invariant }
+
+pub returns-in_err-d : goal.returns-in_err-d
+returns-in_err-d c =
+    record { number = λ e. rw c.from_residual.ensures (kept_bad _ _ _ _ c.loop-c-test.true c.loop-c.invariant c.in_err-d.ensures.value (omega arith) e) }
