@@ -11,11 +11,11 @@ use Rattle.calls.specs.declared.Returned.{Returned}
 use Rattle.calls.specs.Returns.{after}
 
 -- the box that a call returns keeps it
-pub call_kept : (k : Call) (c : Controller) (a : Areas) {a' : Areas} {r : Returned} → after r a' ≡ call k c a → Invariant c
+pub call_kept : (k : Call) (c : Controller) (a : Areas) (r : Returned) {a' : Areas} → after r a' ≡ call k c a → Invariant c
     → Invariant r.next.controller
-call_kept k c a {a'} {r} e i =
+call_kept k c a r e i =
     let s : r.next.controller ≡ (call k c a).state = ap (λ (x : After). x.state) e in rw s (call_invariant k c a i)
 
 -- power-on gives it
-pub power_on_gives : (a : Areas) {a' : Areas} {r : Returned} → after r a' ≡ call power_on (fresh 0) a → Invariant r.next.controller
-power_on_gives a e = call_kept power_on (fresh 0) a e (fresh_invariant 0)
+pub power_on_gives : (a : Areas) (r : Returned) {a' : Areas} → after r a' ≡ call power_on (fresh 0) a → Invariant r.next.controller
+power_on_gives a r e = call_kept power_on (fresh 0) a r e (fresh_invariant 0)

@@ -1,25 +1,42 @@
 -- What the calls of the code return, in the words of the definitions.
-use Rattle.std.specs.Prelude.{ℕ, Bool, List}
+use Rattle.std.specs.Prelude.{ℕ, Bool, Result, Ok, Err}
 use Rattle.formats.specs.Checks.{Res, ◌>>◌, ◌or_else◌}
 use Rattle.controller.specs.declared.Controller.{Controller}
 use Rattle.controller.specs.Controller.{Areas}
 use Rattle.controller.specs.Deeds.{Deed}
-use Rattle.controller.specs.Refusals.{lent}
 use Rattle.controller.specs.Calls.{changed, logged_by, After, accepted}
 use Rattle.calls.specs.declared.SwitchBox.{SwitchBox}
+use Rattle.calls.specs.declared.Refusal.{Refusal}
+use Rattle.calls.specs.declared.Done.{Done}
 use Rattle.calls.specs.declared.Returned.{Returned}
+use Rattle.calls.specs.Refusal.{number_of}
+
+-- 030 and 031, by whether the programs and the log fit
+abbrev pub lent_by : Bool → Bool → Res (Unit {0})
+lent_by programs log = do
+  programs or_else 30
+  log or_else 31
+
+-- the number of the refusal, 0 where there is none, and the counts, which are 0 where there is one
+abbrev pub refusal_in : Result Done Refusal → ℕ
+refusal_in (Ok d) = 0
+refusal_in (Err e) = number_of e
+
+abbrev pub lines_in : Result Done Refusal → ℕ
+lines_in (Ok d) = d.lines
+lines_in (Err e) = 0
+
+abbrev pub written_in : Result Done Refusal → ℕ
+written_in (Ok d) = d.written
+written_in (Err e) = 0
 
 -- what is returned, with the areas after the call
 abbrev pub after : Returned → Areas → After
-after r a = record { state = r.next.controller; refusal = r.refusal; lines = r.lines; written = r.written; areas = a }
-
--- 030 and 031, and then the one test that is the call's own, with its number
-abbrev pub tested : List (List ℕ) → Bool → Bool → ℕ → Res (Unit {0})
-tested programs log test number = lent programs log >> (test or_else number)
+after r a = record { state = r.next.controller; refusal = refusal_in r.done; lines = lines_in r.done; written = written_in r.done; areas = a }
 
 -- a refusal, with the box as it came
-abbrev pub refusing : ℕ → SwitchBox → Returned
-refusing n b = record { next = b; refusal = n; lines = 0; written = 0 }
+abbrev pub refusing : Refusal → SwitchBox → Returned
+refusing e b = record { next = b; done = Err e }
 
 -- a deed: the state after it, the lines run, the bytes written, and the areas
 abbrev pub deed : Controller → ℕ → ℕ → Areas → Deed
