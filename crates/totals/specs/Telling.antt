@@ -2,8 +2,8 @@
 -- 02, item 11: "keep for each of the 32 channels a record of closings, openings and ticks spent closed", and "a number of changes unknown is kept beside
 -- the totals [...]; 4,294,967,295 makes it 'or more'". docs/programs/totals.md has the lines and the messages. 02, item 1: "a refusal is printed as E and
 -- three digits, here and later."
-use Rattle.std.specs.Prelude.{ℕ, ◌+◌, ◌-◌, ◌≤◌, Bool, true, false, List, [], ◌∷◌, ◌++◌, ◌≢◌, ◌≡◌, length, take, replicate, eqb}
-use Rattle.std.specs.Prelude.{if◌then◌else◌}
+use Rattle.std.specs.Prelude.{ℕ, ◌+◌, ◌-◌, ◌≤◌, Bool, true, false, List, [], ◌∷◌, ◌++◌, ◌≡◌, length, take, replicate, eqb}
+use Rattle.std.specs.Prelude.{if◌then◌else◌, Option, Some, None, Result, Ok, Err}
 use Rattle.formats.specs.Checks.{Res, refused, passed, text, same}
 use Rattle.formats.specs.Digits.{shown, decimal, error_text}
 use Rattle.reader.specs.declared.Record.{Record}
@@ -11,11 +11,13 @@ use Rattle.reader.specs.declared.Layout.TheVariants.{Sixteen}
 use Rattle.reader.specs.Reading.{record_at}
 use Rattle.channels.specs.declared.Channel.{Channel}
 use Rattle.channels.specs.declared.Beside.{Beside}
+use Rattle.channels.specs.Numbers.{number_of}
 use Rattle.channels.specs.Totals.{unused, at_start}
-use Rattle.channels.specs.Bringing.{bringing, totals_of, held_of}
-use Rattle.streams.specs.declared.Output.{Output}
-use Rattle.streams.specs.Gathering.{gathered}
-use Rattle.totals.specs.declared.Progress.{Progress}
+use Rattle.channels.specs.Bringing.{bringing, totals_of}
+use Rattle.streams.specs.declared.input.Failed.{Failed}
+use Rattle.streams.specs.Gathering.{Waiting}
+use Rattle.totals.specs.declared.Totals.{Totals}
+use Rattle.totals.specs.declared.Refused.{Refused}
 
 abbrev pub line_end : List ℕ
 line_end = 10 ∷ []
@@ -82,43 +84,48 @@ message_of name e b log = name_text name ++ (text " is refused with " ++ (error_
 
 -- ---- what the program does
 
--- the log that was read last, in the area that is lent for it
-abbrev pub log_in : Progress → List ℕ → List ℕ
-log_in r area = take r.length area
-
--- What a turn does with the file that argument i names. What was read of it is brought forward, or is refused; where the file could not be opened or read,
--- all stays. Which bytes were read, and that they are those of the file, is in no contract, since what a read gives is in none.
-pub record Turns (i : ℕ) (cs : List Channel) (b : Beside) (r : Progress) (area : List ℕ) : Type 0 where
-  pub named : r.name ≡ i
-  pub inside : r.length ≤ length area
-  pub brings : r.failed ≡ false
-      → record { channels = r.channels; answer = record { refusal = r.refusal; beside = r.beside } } ≡ held_of cs b (bringing cs (log_in r area) b)
-  pub fails : r.failed ≡ true → (r.channels ≡ cs) × (r.beside ≡ b) × (r.refusal ≡ 0)
-
 -- before the first log
-pub record Begun (r : Progress) : Type 0 where
-  pub channels : r.channels ≡ replicate 32 unused
-  pub beside : r.beside ≡ at_start
-  pub refusal : r.refusal ≡ 0
-  pub length : r.length ≡ 0
-  pub failed : r.failed ≡ false
+abbrev pub begun : Totals
+begun = record { channels = replicate 32 unused; beside = at_start }
+
+-- the log that is refused, in the area that is lent for it
+abbrev pub log_in : Refused → List ℕ → List ℕ
+log_in f area = take f.length area
+
+-- The log of argument i is refused, where t are the totals before it.
+pub record Refuses (i : ℕ) (t : Totals) (f : Refused) (area : List ℕ) : Type 0 where
+  pub named : f.name ≡ i
+  pub inside : f.length ≤ length area
+  pub refuses : bringing t.channels (log_in f area) t.beside ≡ refused (number_of f.why)
+
+-- What a turn does with the file that argument i names. What was read of it, the first n bytes of the area, is brought forward, or is refused, and all
+-- stays; and so where the file could not be opened or read. Which bytes were read, and that they are those of the file, is in no contract, since what a
+-- read gives is in none.
+abbrev pub Turns : ℕ → Totals → Result (Option Refused) Failed → Totals → List ℕ → Type 0
+Turns i t (Ok None) t' area = (n : ℕ) × (n ≤ length area) × (bringing t.channels (take n area) t.beside ≡ passed (t'.channels, t'.beside))
+Turns i t (Ok (Some f)) t' area = (t' ≡ t) × Refuses i t f area
+Turns i t (Err e) t' area = t' ≡ t
 
 -- What the turns end with, where there are arguments up to number count - 1: the totals of the logs that were brought forward one after the other, none
 -- refused. They are those of all arguments, unless a file could not be read or a log is refused: that is the one of the next argument, behind them.
-pub record Ends (count : ℕ) (r : Progress) (area : List ℕ) : Type 0 where
+abbrev pub EndsAfter : List (List ℕ) → ℕ → Result (Option Refused) Failed → Totals → List ℕ → Type 0
+EndsAfter logs count (Ok None) t area = length logs ≡ count - 1
+EndsAfter logs count (Ok (Some f)) t area = Refuses (length logs + 1) t f area
+EndsAfter logs count (Err e) t area = Unit {0}
+
+pub record Ends (count : ℕ) (r : Result (Option Refused) Failed) (t : Totals) (area : List ℕ) : Type 0 where
   pub logs : List (List ℕ)
-  pub inside : r.length ≤ length area
-  pub brought : totals_of logs ≡ passed (r.channels, r.beside)
-  pub refuses : r.refusal ≢ 0 → (bringing r.channels (log_in r area) r.beside ≡ refused r.refusal) × (r.name ≡ length logs + 1)
-  pub every : r.failed ≡ false → r.refusal ≡ 0 → length logs ≡ count - 1
+  pub brought : totals_of logs ≡ passed (t.channels, t.beside)
+  pub after : EndsAfter logs count r t area
 
 -- all logs that were read, a refused one among them
-abbrev pub logs_read : List (List ℕ) → Progress → List ℕ → List (List ℕ)
-logs_read logs r area = if eqb r.refusal 0 then logs else logs ++ (log_in r area ∷ [])
+abbrev pub logs_read : List (List ℕ) → Option Refused → List ℕ → List (List ℕ)
+logs_read logs None area = logs
+logs_read logs (Some f) area = logs ++ (log_in f area ∷ [])
 
 -- what goes to standard output in the end, whole
-pub record Tells (n : Progress) (area : List ℕ) (r : Output) (block : List ℕ) : Type 0 where
+pub record Tells (r : Option Refused) (t : Totals) (area : List ℕ) (o : Waiting) : Type 0 where
   pub count : ℕ
-  pub ended : Ends count n area
-  pub unfailed : r.open ≡ true
-  pub whole : gathered r block ≡ told_of (totals_of (logs_read ended.logs n area))
+  pub ended : Ends count (Ok r) t area
+  pub unfailed : o.open ≡ true
+  pub whole : o.waits ≡ told_of (totals_of (logs_read ended.logs r area))

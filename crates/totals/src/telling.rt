@@ -1,170 +1,169 @@
 // What is told of the totals, or of a log that is refused, gathered for output. Definitions: specs/Telling.antt.
 ghost use Rattle.std.specs.Prelude.{◌≤◌, ◌<◌, true, ◌≡◌, length};
-ghost use Rattle.streams.specs.Gathering.{gathered, Follows};
+ghost use Rattle.channels.specs.Numbers.{number_of};
+ghost use Rattle.streams.specs.Gathering.{Follows};
 ghost use Rattle.totals.specs.Telling.{line_of, or_more, unknown_line, table_of, refusal_line};
 ghost use Rattle.totals.specs.Telling.{name_text, tick_text, word_text, reason_text, HasFirst, message_of};
 
-use channels::{Beside, Channel};
+use crate::Totals;
+use channels::{Beside, Channel, Refusal};
+use formats::Numbered;
 use reader::{Layout, Record};
 use streams::Output;
-use streams::gather::{put, put_decimal, put_digits};
 
-// Each function below puts text behind what is gathered in the block.
+// What is told on standard output has room in a block of this size,
+pub const BLOCK: usize = 4096;
+
+// and a message in one of this size.
+pub const MESSAGE: usize = 8192;
+
+// Each function below puts text behind what is gathered.
 
 // ---- the totals
 
 // The line of the channel at place i of the 32.
-fn put_channel(output: Output, block: &mut [u8], i: usize, c: Channel) -> Output
+fn put_channel(output: &mut Output<BLOCK>, i: usize, c: &Channel)
     requires { i < 32 }
-    ensures follows { Follows output block.old (line_of i c) result block.new }
+    ensures follows { Follows BLOCK output.old (line_of i c.now) output.new }
 {
-    let number = put_decimal(output, block, i as u64 + 1);
-    let a = put(number, block, b" ");
-    let closings = put_decimal(a, block, c.closings);
-    let b = put(closings, block, b" ");
-    let openings = put_decimal(b, block, c.openings);
-    let d = put(openings, block, b" ");
-    let ticks = put_decimal(d, block, c.ticks);
-    put(ticks, block, b"\n")
+    output.put_number(i as u64 + 1, b' ');
+    output.put_number(c.closings, b' ');
+    output.put_number(c.openings, b' ');
+    output.put_number(c.ticks, b'\n');
 }
 
 // Whether it may be more.
-fn put_more(output: Output, block: &mut [u8], more: bool) -> Output
-    ensures follows { Follows output block.old (or_more more) result block.new }
+fn put_more(output: &mut Output<BLOCK>, more: bool)
+    ensures follows { Follows BLOCK output.old (or_more more) output.new }
 {
     if more {
-        return put(output, block, b" or more");
+        output.put(b" or more");
     }
-    put(output, block, b"")
 }
 
 // The last line.
-fn put_unknown(output: Output, block: &mut [u8], beside: Beside) -> Output
-    ensures follows { Follows output block.old (unknown_line beside) result block.new }
+fn put_unknown(output: &mut Output<BLOCK>, beside: Beside)
+    ensures follows { Follows BLOCK output.old (unknown_line beside) output.new }
 {
-    let a = put(output, block, b"unknown ");
-    let number = put_decimal(a, block, beside.unknown);
-    let more = put_more(number, block, beside.more);
-    put(more, block, b"\n")
+    output.put(b"unknown ");
+    output.put_decimal(beside.unknown);
+    put_more(output, beside.more);
+    output.put(b"\n");
 }
 
 // All lines.
-fn put_table(output: Output, block: &mut [u8], channels: [Channel; 32], beside: Beside) -> Output
-    ensures follows { Follows output block.old (table_of channels beside) result block.new }
+fn put_table(output: &mut Output<BLOCK>, totals: &Totals)
+    ensures follows { Follows BLOCK output.old (table_of totals.now.channels totals.now.beside) output.new }
 {
-    let mut lines = output;
-    let mut i: usize = 0;
-    while i < 32 {
-        let c = channels[i];
-        lines = put_channel(lines, block, i, c);
-        i += 1;
+    for (i, c) in totals.channels.iter().enumerate() {
+        put_channel(output, i, c);
     }
-    put_unknown(lines, block, beside)
+    put_unknown(output, totals.beside);
 }
 
 // The same where nothing is gathered yet, and the block has room for all of it.
-pub fn table_whole(
-    rt: &HostRuntime,
-    block: &mut [u8],
-    channels: [Channel; 32],
-    beside: Beside,
-) -> Output
-    requires { length block.old ≡ 4096 }
+pub fn table_whole(rt: &HostRuntime, totals: &Totals) -> Output<BLOCK>
     ensures open { result.open ≡ true }
-    ensures whole { gathered result block.new ≡ table_of channels beside }
+    ensures whole { result.waits ≡ table_of totals.now.channels totals.now.beside }
 {
-    put_table(Output::new(rt), block, channels, beside)
+    let mut output = Output::new(rt);
+    put_table(&mut output, totals);
+    output
 }
 
 // ---- a log that is refused
 
 // Its line on standard output, where nothing is gathered yet.
-pub fn refusal_whole(rt: &HostRuntime, block: &mut [u8], refusal: u8) -> Output
-    requires { length block.old ≡ 4096 }
+pub fn refusal_whole(rt: &HostRuntime, why: Refusal) -> Output<BLOCK>
     ensures open { result.open ≡ true }
-    ensures whole { gathered result block.new ≡ refusal_line refusal }
+    ensures whole { result.waits ≡ refusal_line (number_of why) }
 {
-    Output::new(rt).put_error(block, refusal, 10)
+    let mut output = Output::new(rt);
+    output.put_error(why, b'\n');
+    output
 }
 
 // The file.
-fn put_name(output: Output, block: &mut [u8], name: &[u8]) -> Output
-    ensures follows { Follows output block.old (name_text name.now) result block.new }
+fn put_name(output: &mut Output<MESSAGE>, name: &[u8])
+    ensures follows { Follows MESSAGE output.old (name_text name.now) output.new }
 {
-    if name.len() == 1 && name[0] == b'-' {
-        return put(output, block, b"standard input");
+    if name == b"-".as_slice() {
+        output.put(b"standard input");
+        return;
     }
-    let a = put(output, block, b"'");
-    let b = put(a, block, name);
-    put(b, block, b"'")
+    output.put(b"'");
+    output.put(name);
+    output.put(b"'");
 }
 
 // An earlier tick than the last one.
-fn put_tick(output: Output, block: &mut [u8], beside: Beside, first: Record) -> Output
-    ensures follows { Follows output block.old (tick_text beside first) result block.new }
+fn put_tick(output: &mut Output<MESSAGE>, beside: Beside, first: Record)
+    ensures follows { Follows MESSAGE output.old (tick_text beside first) output.new }
 {
-    let a = put(output, block, b": expected a first tick of ");
-    let expected = put_decimal(a, block, beside.tick as u64);
-    let b = put(expected, block, b" or later, found ");
-    put_decimal(b, block, first.tick as u64)
+    output.put(b": expected a first tick of ");
+    output.put_decimal(beside.tick as u64);
+    output.put(b" or later, found ");
+    output.put_decimal(first.tick as u64);
 }
 
 // Another word than the last one.
-fn put_word(output: Output, block: &mut [u8], beside: Beside, first: Record) -> Output
-    ensures follows { Follows output block.old (word_text beside first) result block.new }
+fn put_word(output: &mut Output<MESSAGE>, beside: Beside, first: Record)
+    ensures follows { Follows MESSAGE output.old (word_text beside first) output.new }
 {
-    let a = put(output, block, b": expected ");
-    let expected = put_digits(a, block, 16, 8, beside.word as u64);
-    let b = put(expected, block, b" as the first earlier word, found ");
-    put_digits(b, block, 16, 8, first.word as u64)
+    output.put(b": expected ");
+    output.put_digits(16, 8, beside.word as u64);
+    output.put(b" as the first earlier word, found ");
+    output.put_digits(16, 8, first.word as u64);
 }
 
 // What was expected and what was found.
-fn put_reason(output: Output, block: &mut [u8], refusal: u8, beside: Beside, log: &[u8]) -> Output
-    requires { HasFirst refusal log.now }
-    ensures follows { Follows output block.old (reason_text refusal beside log.now) result block.new }
+fn put_reason(output: &mut Output<MESSAGE>, why: Refusal, beside: Beside, log: &[u8])
+    requires { HasFirst (number_of why) log.now }
+    ensures follows { Follows MESSAGE output.old (reason_text (number_of why) beside log.now) output.new }
 {
-    if refusal == 72 {
-        let first = reader::record_at(Layout::Sixteen, log, 0);
-        return put_tick(output, block, beside, first);
+    match why {
+        Refusal::Earlier => {
+            let first = reader::record_at(Layout::Sixteen, log, 0);
+            put_tick(output, beside, first);
+        }
+        Refusal::OtherWord => {
+            let first = reader::record_at(Layout::Sixteen, log, 0);
+            put_word(output, beside, first);
+        }
+        _ => {}
     }
-    if refusal == 73 {
-        let first = reader::record_at(Layout::Sixteen, log, 0);
-        return put_word(output, block, beside, first);
-    }
-    put(output, block, b"")
 }
 
 // The message.
 fn put_message(
-    output: Output,
-    block: &mut [u8],
+    output: &mut Output<MESSAGE>,
     name: &[u8],
-    refusal: u8,
+    why: Refusal,
     beside: Beside,
     log: &[u8],
-) -> Output
-    requires { HasFirst refusal log.now }
-    ensures follows { Follows output block.old (message_of name.now refusal beside log.now) result block.new }
+)
+    requires { HasFirst (number_of why) log.now }
+    ensures follows { Follows MESSAGE output.old (message_of name.now (number_of why) beside log.now) output.new }
 {
-    let file = put_name(output, block, name);
-    let a = put(file, block, b" is refused with E");
-    let number = put_digits(a, block, 10, 3, refusal as u64);
-    let reason = put_reason(number, block, refusal, beside, log);
-    put(reason, block, b"\n")
+    put_name(output, name);
+    output.put(b" is refused with E");
+    output.put_digits(10, 3, why.number() as u64);
+    put_reason(output, why, beside, log);
+    output.put(b"\n");
 }
 
 // The same where nothing is gathered yet, and the block has room for all of it.
 pub fn message_whole(
     rt: &HostRuntime,
-    block: &mut [u8],
     name: &[u8],
-    refusal: u8,
+    why: Refusal,
     beside: Beside,
     log: &[u8],
-) -> Output
-    requires { (length block.old ≡ 8192) × (length name.now ≤ 4096) × HasFirst refusal log.now }
-    ensures whole { gathered result block.new ≡ message_of name.now refusal beside log.now }
+) -> Output<MESSAGE>
+    requires { (length name.now ≤ 4096) × HasFirst (number_of why) log.now }
+    ensures whole { result.waits ≡ message_of name.now (number_of why) beside log.now }
 {
-    put_message(Output::new(rt), block, name, refusal, beside, log)
+    let mut output = Output::new(rt);
+    put_message(&mut output, name, why, beside, log);
+    output
 }

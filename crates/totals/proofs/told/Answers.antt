@@ -1,20 +1,10 @@
--- `totals::told` meets its contract: what is held is what comes of the logs that were read.
+-- `totals::told` meets its contract: what is told is what comes of the logs that were read.
 -- Assumes nothing.
-use Rattle.totals.proofs.Chains.{told_taken, told_refused}
-use mathlib.Core.Path.{◌∙◌}
+use Rattle.totals.proofs.Chains.{tells_refused, tells_taken}
 use Rattle.totals.proofs.told.Goals as goal
 
-pub returns-then-n-ne0 : goal.returns-then-n-ne0
-returns-then-n-ne0 c =
-    record {
-      tells =
-          record {
-            count = c.requires.0.0;
-            ended = c.requires.0.1;
-            unfailed = c.refusal_whole.ensures.«open»;
-            whole = c.refusal_whole.ensures.whole ∙ told_refused c.requires.0.1 c.if-n-ne0.true;
-          };
-    }
+pub returns-in-Some : goal.returns-in-Some
+returns-in-Some c = record { tells = rw c.in-Some.is (tells_refused (rw c.in-Some.is at c.requires.1) c.refusal_whole.ensures.«open» c.refusal_whole.ensures.whole) }
 
-pub returns : goal.returns
-returns c = record { tells = record { count = c.requires.0.0; ended = c.requires.0.1; unfailed = c.table_whole.ensures.«open»; whole = c.table_whole.ensures.whole ∙ told_taken c.requires.0.1 c.if-n-ne0.false } }
+pub returns-in-None : goal.returns-in-None
+returns-in-None c = record { tells = rw c.in-None.is (tells_taken (rw c.in-None.is at c.requires.1) c.table_whole.ensures.«open» c.table_whole.ensures.whole) }

@@ -11,6 +11,6 @@ unfolding message_of error_text text
 returns c =
     record {
       follows =
-          (follows_more c.put_name-file.ensures.follows
-          (follows_more c.put-a.ensures.follows (follows_more c.put_digits-number.ensures.follows (follows_more c.put_reason-reason.ensures.follows c.put.ensures.follows))));
+          follows_more c.put_name.ensures.follows
+          (follows_more c.put.ensures.follows (follows_more (rw c.number.ensures at c.put_digits.ensures.follows) (follows_more c.put_reason.ensures.follows c.put-2.ensures.follows)));
     }

@@ -6,7 +6,3 @@ use Rattle.totals.proofs.telling.put_more.Goals as goal
 pub returns-then-more : goal.returns-then-more
 unfolding text
 returns-then-more c = record { follows = rw c.if-more.true c.put.ensures.follows }
-
-pub returns : goal.returns
-unfolding text
-returns c = record { follows = rw c.if-more.false c.put-2.ensures.follows }

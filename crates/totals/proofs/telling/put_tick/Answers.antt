@@ -7,4 +7,4 @@ use Rattle.totals.proofs.telling.put_tick.Goals as goal
 
 pub returns : goal.returns
 unfolding tick_text text
-returns c = record { follows = (follows_more c.put-a.ensures.follows (follows_more c.put_decimal-expected.ensures.follows (follows_more c.put-b.ensures.follows c.put_decimal.ensures.follows))) }
+returns c = record { follows = follows_more c.put.ensures.follows (follows_more c.put_decimal.ensures.follows (follows_more c.put-2.ensures.follows c.put_decimal-2.ensures.follows)) }

@@ -7,4 +7,4 @@ use Rattle.totals.proofs.telling.put_unknown.Goals as goal
 
 pub returns : goal.returns
 unfolding unknown_line text
-returns c = record { follows = (follows_more c.put-a.ensures.follows (follows_more c.put_decimal-number.ensures.follows (follows_more c.put_more-more.ensures.follows c.put.ensures.follows))) }
+returns c = record { follows = follows_more c.put.ensures.follows (follows_more c.put_decimal.ensures.follows (follows_more c.put_more.ensures.follows c.put-2.ensures.follows)) }

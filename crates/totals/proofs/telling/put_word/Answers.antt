@@ -7,4 +7,4 @@ use Rattle.totals.proofs.telling.put_word.Goals as goal
 
 pub returns : goal.returns
 unfolding word_text text
-returns c = record { follows = (follows_more c.put-a.ensures.follows (follows_more c.put_digits-expected.ensures.follows (follows_more c.put-b.ensures.follows c.put_digits.ensures.follows))) }
+returns c = record { follows = follows_more c.put.ensures.follows (follows_more c.put_digits.ensures.follows (follows_more c.put-2.ensures.follows c.put_digits-2.ensures.follows)) }
