@@ -1,9 +1,9 @@
 -- Promises that apply: for each premise of the theorems that speaks of calls, a test that can be computed on a history. That a test which passes is the very
 -- premise is proved in `proofs/Walked`.
-use Rattle.std.specs.Prelude.{ℕ, ◌+◌, Bool, true, false, not, ◌&&◌, ◌||◌, List, [], ◌∷◌, ◌++◌, map, length, eqb}
+use Rattle.std.specs.Prelude.{ℕ, ◌+◌, Bool, true, false, not, ◌&&◌, ◌||◌, List, [], ◌∷◌, ◌++◌, map, length, eqb, Option as Outcome, None, Some}
 use Rattle.std.proofs.Math.Option.{Option, none, some}
 use Rattle.formats.specs.Checks.{Res, refused, passed, text, same, all}
-use Rattle.explanation.specs.Report.{Outcome, still_running, has_stopped}
+use Rattle.explanation.specs.declared.Stop.{Stop}
 use Rattle.formats.specs.Digits.{shown}
 use Rattle.running.specs.declared.Run.{Run}
 use Rattle.running.specs.Running.{ticks}
@@ -58,16 +58,16 @@ is_given (refused e) n = false
 is_given (passed m) n = eqb m n
 
 -- the report of a stop tells this event, tick and line
-abbrev pub is_stop : Res Outcome → ℕ → ℕ → ℕ → Bool
+abbrev pub is_stop : Res (Outcome Stop) → ℕ → ℕ → ℕ → Bool
 is_stop (refused r) e n k = false
-is_stop (passed still_running) e n k = false
-is_stop (passed (has_stopped s)) e n k = eqb s.event e && eqb s.tick n && eqb s.line k
+is_stop (passed None) e n k = false
+is_stop (passed (Some s)) e n k = eqb s.event e && eqb s.tick n && eqb s.line k
 
 -- or that the program still runs
-abbrev pub is_still : Res Outcome → Bool
+abbrev pub is_still : Res (Outcome Stop) → Bool
 is_still (refused r) = false
-is_still (passed still_running) = true
-is_still (passed (has_stopped s)) = false
+is_still (passed None) = true
+is_still (passed (Some s)) = false
 
 abbrev pub is_some : Option ℕ → ℕ → Bool
 is_some none n = false

@@ -19,7 +19,8 @@ use Rattle.running.specs.declared.Run.{Run}
 use Rattle.running.specs.Running.{ticks, tick}
 use Rattle.running.specs.Running as Running
 use Rattle.duration.specs.Report.{report}
-use Rattle.explanation.specs.Report.{has_stopped, report as stop_report}
+use Rattle.std.specs.Prelude.{Some}
+use Rattle.explanation.specs.Report.{report as stop_report}
 use Rattle.planner.specs.Plan.{moves_of, total, word_at}
 use Rattle.planner.specs.Lines.{plan_lines}
 use Rattle.planner.specs.Planned.{planned}
@@ -250,7 +251,7 @@ module _ (x : Runs) where
         (runs_as_long c so first (x.count + 1) is (omega (arith, count_is)), ends.0, ends.1)
     ends_apply on_bad e =
         stop_so _ 14 (x.count + 1) (ruled_now.line + 1) e.1.1.1.0 λ stop is event at_tick line.
-        let told_so : stop_report (program_of c) s.line (x.count + 1) ≡ passed (has_stopped stop) =
+        let told_so : stop_report (program_of c) s.line (x.count + 1) ≡ passed (Some stop) =
         ap (λ (h : Held). stop_report h.program s.line (x.count + 1)) (at_start s).held ∙ is in
         let shows = (stops_as_explained c so (x.count + 1) stop told_so (ap (λ n. n + 1) count_is ∙ sym at_tick) t next).1 in (
           (bad_tick c so on t next (rw tested (leb-true _ _ e.0)) (rw tested (ltb-true _ _ e.1.0))
@@ -319,7 +320,7 @@ module _ (x : AtOnce) (ok : AllTrue (at_once x)) where
       shows : ShowsStop (started_by r) (if x.is_on_bad then 14 else 11) r.line
       shows =
           stop_so _ (if x.is_on_bad then 14 else 11) 0 r.line (tests 5) λ stop is ends at_tick line.
-          let told_so : stop_report (program_of once) r.line 0 ≡ passed (has_stopped stop) =
+          let told_so : stop_report (program_of once) r.line 0 ≡ passed (Some stop) =
           ap (λ (h : Held). stop_report h.program r.line 0) (at_start r).held ∙ is in
           let shown = (stops_in_the_start once once_so 0 stop told_so at_tick).1 in
           subst (λ v. ShowsStop (started_by r) v r.line) ends (subst (ShowsStop (started_by r) stop.event) line shown)

@@ -10,7 +10,7 @@ use lib.Dec.{eqb}
 use borrow.Author.Tests.{eqb-true, not-true}
 use Rattle.formats.specs.Checks.{Res, refused, passed, text, same, all}
 use Rattle.explanation.specs.declared.Stop.{Stop}
-use Rattle.explanation.specs.Report.{Outcome, still_running, has_stopped}
+use Rattle.std.specs.Prelude.{Option as Outcome, None, Some}
 use Rattle.formats.specs.Digits.{shown}
 use Rattle.formats.proofs.Checks.{both_true, either_true, same_equal}
 use Rattle.wire.specs.Naming.{Names, by_digits, by_i, by_d}
@@ -213,11 +213,11 @@ pub write_named : {cs : List Made} {w : Walk} → Reached cs w → (k : ℕ) (a 
 write_named r k a e = subst (λ (t : Told). Names t.next_write k a) (sym r.told) (names_so _ k a e)
 
 -- what a stop that is told has for its parts
-pub stop_so : {X : Type 0} (r : Res Outcome) (e n k : ℕ) → is_stop r e n k ≡ true
-    → ((s : Stop) → r ≡ passed (has_stopped s) → s.event ≡ e → s.tick ≡ n → s.line ≡ k → X) → X
+pub stop_so : {X : Type 0} (r : Res (Outcome Stop)) (e n k : ℕ) → is_stop r e n k ≡ true
+    → ((s : Stop) → r ≡ passed (Some s) → s.event ≡ e → s.tick ≡ n → s.line ≡ k → X) → X
 stop_so (refused x) e n k p so = absurd (true≢false (sym p))
-stop_so (passed still_running) e n k p so = absurd (true≢false (sym p))
-stop_so (passed (has_stopped s)) e n k p so =
+stop_so (passed None) e n k p so = absurd (true≢false (sym p))
+stop_so (passed (Some s)) e n k p so =
     let a = both_true _ _ p in
     let b = both_true _ _ a.0 in
     so s refl (eqb-true _ _ b.0) (eqb-true _ _ b.1) (eqb-true _ _ a.1)
@@ -226,10 +226,10 @@ pub program_so : (r : Res (List ℕ)) (p : List ℕ) → is_program_of r p ≡ t
 program_so (refused x) p e = absurd (true≢false (sym e))
 program_so (passed q) p e = ap passed (same_equal q p e)
 
-pub still_so : (r : Res Outcome) → is_still r ≡ true → r ≡ passed still_running
+pub still_so : (r : Res (Outcome Stop)) → is_still r ≡ true → r ≡ passed None
 still_so (refused x) p = absurd (true≢false (sym p))
-still_so (passed still_running) p = refl
-still_so (passed (has_stopped s)) p = absurd (true≢false (sym p))
+still_so (passed None) p = refl
+still_so (passed (Some s)) p = absurd (true≢false (sym p))
 
 pub given_so : (r : Res ℕ) (n : ℕ) → is_given r n ≡ true → r ≡ passed n
 given_so (refused e) n p = absurd (true≢false (sym p))

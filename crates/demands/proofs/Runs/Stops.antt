@@ -8,7 +8,8 @@ use Rattle.running.specs.declared.Run.{Run}
 use Rattle.running.specs.Ticking as Ticking
 use Rattle.running.proofs.Reaching.{after_ticks}
 use Rattle.explanation.specs.declared.Stop.{Stop}
-use Rattle.explanation.specs.Report.{still_running, has_stopped, report}
+use Rattle.std.specs.Prelude.{None, Some}
+use Rattle.explanation.specs.Report.{report}
 use Rattle.explanation.specs.Facts.{StopsSo}
 use Rattle.explanation.proofs.Explained.{stops_as_told, runs_as_told}
 use Rattle.controller.specs.Controller.{Areas}
@@ -21,7 +22,7 @@ use Rattle.demands.proofs.Runs.Ends.{shows_stop, runs_so_long, ends_there, ends_
 module _ (c : Course) (so : Started c) (limit : ℕ) where
   -- 02, item 9: for a program that the report tells to stop so, started at that line, whatever the outputs were: as long as fewer ticks were taken
   -- unpaused it runs, whatever the traffic and the pauses,
-  module _ (s : Stop) (is : report (program_of c) c.line limit ≡ passed (has_stopped s)) where
+  module _ (s : Stop) (is : report (program_of c) c.line limit ≡ passed (Some s)) where
     stops : StopsSo (program_of c) c.line (outputs c.before) limit s
     stops = stops_as_told (program_of c) c.line limit s is (outputs c.before)
 
@@ -44,7 +45,7 @@ module _ (c : Course) (so : Started c) (limit : ℕ) where
         (end.1, shows_stop (begun c) end.1 s.event s.line end.0 (end.2 ∙ (rw at_once at stops.there)))
 
   -- A program that is told to run still does so, as long as no more ticks than the limit were taken unpaused.
-  pub runs_as_explained : report (program_of c) c.line limit ≡ passed still_running → count c ≤ limit → (told (now c)).run.on ≡ true
+  pub runs_as_explained : report (program_of c) c.line limit ≡ passed None → count c ≤ limit → (told (now c)).run.on ≡ true
   runs_as_explained is le =
       let on = ap (λ (r : Run). r.on) (after_ticks (program_of c) (count c) (start_of c)) in
       let runs = (runs_as_told (program_of c) c.line limit is (outputs c.before) (count c) le).on in
