@@ -17,7 +17,9 @@ use Rattle.plantext.specs.declared.Number.TheVariants.{Few, Whole, Never}
 use Rattle.plantext.specs.Text.{hex_value, is_digit_to, Word, Time}
 use Rattle.plantext.specs.Faults.{is_plain}
 use Rattle.plantext.specs.Kept.{capped}
-use Rattle.plantext.specs.Reading.{value_after, with_digit, grown}
+use Rattle.plantext.specs.declared.Kind.{Kind}
+use Rattle.plantext.specs.declared.Kind.TheVariants.{MoveWord, Settling, ReadingWord, Reading}
+use Rattle.plantext.specs.Reading.{base, value_after, with_digit, grown}
 
 -- ---- the characters one after the other
 
@@ -44,6 +46,13 @@ is_begun Never = true
 after_other : (b x : ℕ) (n : Number) → leb b x ≡ true → grown b x n ≡ Never
 unfolding grown
 after_other b x n e = rw e
+
+-- what has no value is none in any field
+pub no_value : (k : Kind) (n : Number) → grown (base k) 16 n ≡ Never
+no_value MoveWord n = after_other 16 16 n refl
+no_value Settling n = after_other 10 16 n refl
+no_value ReadingWord n = after_other 16 16 n refl
+no_value Reading n = after_other 10 16 n refl
 
 -- it is one
 after_digit : (b x : ℕ) (n : Number) → leb b x ≡ false → grown b x n ≡ with_digit b x n

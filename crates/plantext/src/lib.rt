@@ -4,6 +4,7 @@
 #![tactic(auto)]
 
 ghost use Rattle.std.specs.Prelude.{◌≡◌};
+ghost use Rattle.std.specs.Option.{unwrap_or};
 ghost use Rattle.plantext.specs.Text.{hex_value};
 ghost use Rattle.plantext.specs.Reading.{begin, base, behind, wrong, before, missing, grown, value_after, character, stored, field_end};
 ghost use Rattle.plantext.specs.Reading.{closed, hash, letter, line_end, resolved, step, fed, ended};
@@ -131,14 +132,13 @@ impl Place {
 
 // ---- digits
 
-// The value of a hex digit of either case; 16 for every other character.
-// Kept: 16 and no Option, since the definition `hex_value` in specs/Text.antt says so, by which a word and a time are defined.
+// The value of a hex digit of either case; no other character has one.
 #[tactic(auto, unfolding(crate::specs::Text::hex_value))]
-fn hex_value(c: u8) -> u8
-    ensures value { result ≡ hex_value c }
+fn hex_value(c: u8) -> Option<u8>
+    ensures value { unwrap_or result 16 ≡ hex_value c }
 {
     match c {
-        b'a'..=b'f' => c - b'a' + 10,
+        b'a'..=b'f' => Some(c - b'a' + 10),
         _ => formats::digit_value(c),
     }
 }
@@ -151,11 +151,16 @@ fn value_after(base: u32, v: u32, x: u32) -> u32
 }
 
 impl Number {
-    // What it is with a character of value x more.
-    #[tactic(auto, unfolding(crate::specs::Reading::grown))]
-    fn grown(self, base: u32, x: u32) -> Number
-        ensures number { result ≡ grown base x self }
+    // What it is in a field of that kind with a character more.
+    #[tactic(auto, using(crate::proofs::Fields::no_value), unfolding(crate::specs::Reading::grown))]
+    fn grown(self, kind: Kind, c: u8) -> Number
+        ensures number { result ≡ grown (base kind) (hex_value c) self }
     {
+        let base = kind.base();
+        let Some(x) = hex_value(c) else {
+            return Number::Never;
+        };
+        let x = x as u32;
         if base <= x {
             return Number::Never;
         }
@@ -193,7 +198,7 @@ impl Reader {
     {
         match self.place {
             Place::In(kind, number) => {
-                self.place = Place::In(kind, number.grown(kind.base(), hex_value(c) as u32));
+                self.place = Place::In(kind, number.grown(kind, c));
             }
             Place::Past => self.fault = Some(Fault::Behind),
             Place::Remark => {}
