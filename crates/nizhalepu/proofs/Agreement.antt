@@ -9,7 +9,7 @@ use Rattle.controller.specs.Invariant.{Invariant}
 use Rattle.controller.proofs.Invariant.{fresh_invariant, call_invariant}
 use Rattle.calls.specs.declared.SwitchBox.{SwitchBox}
 use Rattle.calls.specs.declared.Returned.{Returned}
-use Rattle.calls.specs.Returns.{after}
+use Rattle.calls.specs.Returns.{refusal_in, lines_in, written_in, after}
 use Rattle.nizhalepu.specs.declared.Said.{Said}
 use Rattle.nizhalepu.specs.InRecord.{in_record}
 
@@ -24,7 +24,7 @@ module _ (k : Call) (c : Controller) (lent : Areas) (r : Returned) (a : Areas) (
   pub same_box : b ≡ r.next
   same_box = ap (λ (x : After). record { controller = x.state }) same
 
-  pub same_numbers : (s.refusal ≡ r.refusal) × (s.lines ≡ r.lines) × (s.written ≡ r.written)
+  pub same_numbers : (s.refusal ≡ refusal_in r.done) × (s.lines ≡ lines_in r.done) × (s.written ≡ written_in r.done)
   same_numbers = (ap (λ (x : After). x.refusal) same, ap (λ (x : After). x.lines) same, ap (λ (x : After). x.written) same)
 
   pub same_areas : a' ≡ a

@@ -10,6 +10,7 @@ ghost use Rattle.controller.specs.Refusals.{power_on, byte, tick, press, emptyin
 ghost use Rattle.controller.specs.Calls.{call};
 ghost use Rattle.controller.specs.Invariant.{Invariant};
 ghost use Rattle.controller.specs.Controller.{areas};
+ghost use Rattle.calls.specs.Returns.{refusal_in, lines_in, written_in};
 ghost use Rattle.nizhalepu.specs.InRecord.{in_record};
 ghost use Rattle.formats.specs.Checks.{refusal_of};
 ghost use Rattle.formats.specs.Writing.{Wrote};
@@ -21,7 +22,7 @@ ghost use Rattle.nizhalepu.specs.Durations.{duration_of};
 ghost use Rattle.nizhalepu.specs.Stops.{explained_of};
 ghost use Rattle.channels.specs.Bringing.{bringing, answer_of, records_of};
 
-use calls::SwitchBox;
+use calls::{Done, Refusal, SwitchBox};
 use channels::{Beside, Channel};
 use formats::Numbered;
 
@@ -37,6 +38,26 @@ pub struct Said {
     pub written: usize,
 }
 
+// What was done, or the number of the refusal.
+fn told(done: Result<Done, Refusal>) -> Said
+    ensures refusal { result.refusal ≡ refusal_in done }
+    ensures lines { result.lines ≡ lines_in done }
+    ensures written { result.written ≡ written_in done }
+{
+    match done {
+        Ok(done) => Said {
+            refusal: 0,
+            lines: done.lines,
+            written: done.written,
+        },
+        Err(refusal) => Said {
+            refusal: refusal.number(),
+            lines: 0,
+            written: 0,
+        },
+    }
+}
+
 // Power-on fills the record, whatever it held.
 #[unsafe(no_mangle)]
 pub extern "C" fn nizhalepu_power_on(
@@ -50,11 +71,7 @@ pub extern "C" fn nizhalepu_power_on(
 {
     let answer = SwitchBox::power_on(program, saved, log);
     *state = answer.next;
-    Said {
-        refusal: answer.refusal,
-        lines: answer.lines,
-        written: answer.written,
-    }
+    told(answer.done)
 }
 
 // One wire byte.
@@ -73,11 +90,7 @@ pub extern "C" fn nizhalepu_byte(
 {
     let answer = SwitchBox::byte(*state, x, program, saved, log, reply);
     *state = answer.next;
-    Said {
-        refusal: answer.refusal,
-        lines: answer.lines,
-        written: answer.written,
-    }
+    told(answer.done)
 }
 
 // One tick.
@@ -89,11 +102,7 @@ pub extern "C" fn nizhalepu_tick(state: &mut SwitchBox, program: &[u8], log: &mu
 {
     let answer = SwitchBox::tick(*state, program, log);
     *state = answer.next;
-    Said {
-        refusal: answer.refusal,
-        lines: answer.lines,
-        written: answer.written,
-    }
+    told(answer.done)
 }
 
 // One press of a button.
@@ -110,11 +119,7 @@ pub extern "C" fn nizhalepu_press(
 {
     let answer = SwitchBox::press(*state, n, program, log);
     *state = answer.next;
-    Said {
-        refusal: answer.refusal,
-        lines: answer.lines,
-        written: answer.written,
-    }
+    told(answer.done)
 }
 
 // Emptying the log.
@@ -126,11 +131,7 @@ pub extern "C" fn nizhalepu_empty(state: &mut SwitchBox, log: &[u8], destination
 {
     let answer = SwitchBox::empty(*state, log, destination);
     *state = answer.next;
-    Said {
-        refusal: answer.refusal,
-        lines: answer.lines,
-        written: answer.written,
-    }
+    told(answer.done)
 }
 
 // The text of an emptied log, or of its refusal.
