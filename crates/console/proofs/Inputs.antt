@@ -15,7 +15,7 @@ use Rattle.controller.specs.Invariant.{Invariant}
 use Rattle.controller.proofs.Invariant.{fresh_invariant, call_invariant}
 use Rattle.calls.specs.declared.SwitchBox.{SwitchBox}
 use Rattle.calls.specs.declared.Returned.{Returned}
-use Rattle.calls.specs.Returns.{after}
+use Rattle.calls.specs.Returns.{written_in, after}
 use Rattle.streams.specs.Gathering.{Waiting, nothing_gathered, waits_after, Puts}
 use Rattle.streams.proofs.Gathering.{nothing_waits}
 use Rattle.console.specs.Inputs.{Held, holding, made, held_by, reply_of, held_after, replies, waits_after_all}
@@ -108,10 +108,10 @@ module _ {size : ℕ} where
 -- ---- the calls of bench, by their contracts
 
 -- a byte to the wire, whose reply is put
-pub byte_does : {size : ℕ} {b : SwitchBox} {p s l p' s' l' y' : List ℕ} {r : Returned} {o o' : Waiting} (x : ℕ)
-    → after r (areas p' s' l' y') ≡ made (byte x) (holding b p s l) → Puts size o (take r.written y') o'
+pub byte_does : {size : ℕ} {b : SwitchBox} {p s l p' s' l' y' : List ℕ} (r : Returned) {o o' : Waiting} (x : ℕ)
+    → after r (areas p' s' l' y') ≡ made (byte x) (holding b p s l) → Puts size o (take (written_in r.done) y') o'
     → Does size (byte x ∷ []) (holding b p s l) o (holding r.next p' s' l') o'
-byte_does {b = b} {p} {s} {l} x e puts =
+byte_does {b = b} {p} {s} {l} r x e puts =
     let h : Held = holding b p s l in
     does_one (byte x) (ap (held_by (byte x) h) e) (rw (ap reply_of e) at puts)
 
@@ -120,15 +120,15 @@ pub record Silently (k : Call) (h h' : Held) : Type 0 where
   pub held : h' ≡ held_by k h (made k h)
   pub silent : reply_of (made k h) ≡ []
 
-pub tick_silently : {b : SwitchBox} {p s l l' : List ℕ} {r : Returned} → after r (areas p [] l' []) ≡ made tick (holding b p s l)
+pub tick_silently : {b : SwitchBox} {p s l l' : List ℕ} (r : Returned) → after r (areas p [] l' []) ≡ made tick (holding b p s l)
     → Silently tick (holding b p s l) (holding r.next p s l')
-tick_silently {b} {p} {s} {l} {r = r} e =
-    record { held = ap (held_by tick (holding b p s l)) e; silent = sym (ap reply_of e) ∙ take-nil r.written }
+tick_silently {b} {p} {s} {l} r e =
+    record { held = ap (held_by tick (holding b p s l)) e; silent = sym (ap reply_of e) ∙ take-nil (written_in r.done) }
 
-pub press_silently : (n : ℕ) {b : SwitchBox} {p s l l' : List ℕ} {r : Returned} → after r (areas p [] l' []) ≡ made (press n) (holding b p s l)
+pub press_silently : (n : ℕ) {b : SwitchBox} {p s l l' : List ℕ} (r : Returned) → after r (areas p [] l' []) ≡ made (press n) (holding b p s l)
     → Silently (press n) (holding b p s l) (holding r.next p s l')
-press_silently n {b} {p} {s} {l} {r = r} e =
-    record { held = ap (held_by (press n) (holding b p s l)) e; silent = sym (ap reply_of e) ∙ take-nil r.written }
+press_silently n {b} {p} {s} {l} r e =
+    record { held = ap (held_by (press n) (holding b p s l)) e; silent = sym (ap reply_of e) ∙ take-nil (written_in r.done) }
 
 -- ---- which call a byte of input is
 
@@ -285,6 +285,6 @@ module _ {size : ℕ} where
 -- ---- the beginning
 
 -- the box of a power-on with zeros
-pub power_on_begins : {p s l : List ℕ} {r : Returned} → after r (areas p s l []) ≡ made power_on unpowered → holding r.next p s l ≡ begins
+pub power_on_begins : {p s l : List ℕ} (r : Returned) → after r (areas p s l []) ≡ made power_on unpowered → holding r.next p s l ≡ begins
 unfolding begins
-power_on_begins e = ap (held_by power_on unpowered) e
+power_on_begins r e = ap (held_by power_on unpowered) e

@@ -98,7 +98,7 @@ impl Bench {
         } = self;
         let a = held.byte(x, program, saved, log, &mut reply);
         *held = a.next;
-        output.put_first(&reply, a.written);
+        output.put_first(&reply, a.written());
     }
 
     // One byte of input. Here and below, the answer is whether there may be more.

@@ -6,7 +6,8 @@
 ghost use Rattle.std.specs.Prelude.{◌<◌, ◌≤◌};
 ghost use Rattle.controller.specs.Invariant.{Invariant};
 
-use calls::{Returned, SwitchBox};
+use calls::{Done, Returned, SwitchBox};
+use formats::Numbered;
 use streams::input::Input;
 use streams::{Output, arguments};
 
@@ -195,14 +196,24 @@ fn sum(buffer: &[u8]) -> u64 {
 
 // The line that tells of a call: what it returned, a sum of each buffer as it left them, and the bytes written.
 fn tell(output: &mut Told, a: Returned, buffers: &Buffers) {
-    output.put_number(a.refusal as u64, b' ');
-    output.put_number(a.lines as u64, b' ');
-    output.put_number(a.written as u64, b' ');
+    let (refusal, done) = match a.done {
+        Ok(done) => (0, done),
+        Err(refusal) => (
+            refusal.number(),
+            Done {
+                lines: 0,
+                written: 0,
+            },
+        ),
+    };
+    output.put_number(refusal as u64, b' ');
+    output.put_number(done.lines as u64, b' ');
+    output.put_number(done.written as u64, b' ');
     output.put_number(sum(&buffers.program), b' ');
     output.put_number(sum(&buffers.saved), b' ');
     output.put_number(sum(&buffers.log), b' ');
     output.put_number(sum(&buffers.out), b' ');
-    output.put_first(&buffers.out, a.written);
+    output.put_first(&buffers.out, done.written);
     output.put(b"\n");
 }
 

@@ -4,4 +4,4 @@ use Rattle.calls.proofs.Kept.{power_on_gives}
 use Rattle.trials.proofs.main.Goals as goal
 
 pub turns-requires : goal.turns-requires
-turns-requires c = power_on_gives _ c.power_on-a.ensures.call
+turns-requires c = power_on_gives _ c.power_on-a.result c.power_on-a.ensures.call

@@ -6,7 +6,7 @@ use Rattle.console.proofs.Inputs.{byte_does}
 use Rattle.console.proofs.Bench.byte.Goals as goal
 
 pub invariant_of-self : goal.invariant_of-self
-invariant_of-self c = call_kept (Calls.byte c.args.x) _ _ c.byte-a.ensures.call c.self.invariant
+invariant_of-self c = call_kept (Calls.byte c.args.x) _ _ c.byte-a.result c.byte-a.ensures.call c.self.invariant
 
 pub returns : goal.returns
-returns c = rw (← c.self.view_is) record { does = byte_does c.args.x c.byte-a.ensures.call c.put_first.ensures.puts }
+returns c = rw (← c.self.view_is) record { does = byte_does c.byte-a.result c.args.x c.byte-a.ensures.call (rw c.written.ensures.written at c.put_first.ensures.puts) }

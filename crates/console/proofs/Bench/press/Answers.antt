@@ -6,7 +6,7 @@ use Rattle.console.proofs.Inputs.{press_silently}
 use Rattle.console.proofs.Bench.press.Goals as goal
 
 pub invariant_of-self : goal.invariant_of-self
-invariant_of-self c = call_kept (Calls.press c.args.n) _ _ c.press-a.ensures.call c.self.invariant
+invariant_of-self c = call_kept (Calls.press c.args.n) _ _ c.press-a.result c.press-a.ensures.call c.self.invariant
 
 pub returns : goal.returns
-returns c = let s = press_silently c.args.n c.press-a.ensures.call in rw (← c.self.view_is) record { held = s.held; silent = s.silent }
+returns c = let s = press_silently c.args.n c.press-a.result c.press-a.ensures.call in rw (← c.self.view_is) record { held = s.held; silent = s.silent }
