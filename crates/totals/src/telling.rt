@@ -135,13 +135,7 @@ fn put_reason(output: &mut Output<MESSAGE>, why: Refusal, beside: Beside, log: &
 }
 
 // The message.
-fn put_message(
-    output: &mut Output<MESSAGE>,
-    name: &[u8],
-    why: Refusal,
-    beside: Beside,
-    log: &[u8],
-)
+fn put_message(output: &mut Output<MESSAGE>, name: &[u8], why: Refusal, beside: Beside, log: &[u8])
     requires { HasFirst (number_of why) log.now }
     ensures follows { Follows MESSAGE output.old (message_of name.now (number_of why) beside log.now) output.new }
 {

@@ -1,6 +1,5 @@
 -- `totals::telling::put_channel` meets its contract: piece by piece.
 -- Assumes nothing.
-use Rattle.totals.specs.Telling.{line_of}
 use Rattle.totals.proofs.Table.{line_follows}
 use Rattle.totals.proofs.telling.put_channel.Goals as goal
 
