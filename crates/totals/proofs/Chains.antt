@@ -6,7 +6,7 @@ use mathlib.Core.Path.{◌≡◌, refl, sym, ap, subst, ◌∙◌}
 use mathlib.Core.Bool.{true}
 use mathlib.Core.List.{List, [], ◌∷◌, ◌++◌}
 use lib.ListN.{length, length-append, take}
-use Rattle.std.specs.Prelude.{Option, Some, None, Result, Ok, Err}
+use Rattle.std.specs.Prelude.{Some, None, Ok, Err}
 use Rattle.formats.specs.Checks.{Res, refused, passed, ◌>>=◌}
 use Rattle.formats.proofs.Checks.{not_passed, passed_same}
 use Rattle.channels.specs.declared.Channel.{Channel}
@@ -19,7 +19,7 @@ use Rattle.streams.specs.declared.input.Failed.{Failed}
 use Rattle.totals.specs.declared.Totals.{Totals}
 use Rattle.totals.specs.declared.Refused.{Refused}
 use Rattle.channels.specs.Bringing.{bring_all, totals_of}
-use Rattle.totals.specs.Telling.{HasFirst, refusal_line, table_of, told_of, log_in, logs_read, begun, Refuses, Turns, Ends, Tells}
+use Rattle.totals.specs.Telling.{HasFirst, refusal_line, table_of, told_of, log_in, begun, Refuses, Turns, Ends, Tells}
 
 -- ---- one log more
 

@@ -21,9 +21,9 @@ pub line_follows : {size : ℕ} (i : ℕ) (c : Channel) {o o1 o2 o3 r : Waiting}
 unfolding line_of text
 line_follows {size} i c {o} {r = r} f g h k =
     let is =
-        append_assoc (decimal (i + 1)) (32 ∷ []) _
-        ∙ ap (λ l. decimal (i + 1) ++ (32 ∷ l))
-          (append_assoc (decimal c.closings) (32 ∷ []) _ ∙ ap (λ l. decimal c.closings ++ (32 ∷ l)) (append_assoc (decimal c.openings) (32 ∷ []) _)) in
+    append_assoc (decimal (i + 1)) (32 ∷ []) _
+    ∙ ap (λ l. decimal (i + 1) ++ (32 ∷ l))
+    (append_assoc (decimal c.closings) (32 ∷ []) _ ∙ ap (λ l. decimal c.closings ++ (32 ∷ l)) (append_assoc (decimal c.openings) (32 ∷ []) _)) in
     subst (λ l. Follows size o l r) is (follows_more f (follows_more g (follows_more h k)))
 
 -- The channels before place i are told: with the table from there on the table is whole.

@@ -30,6 +30,7 @@ struct Refused {
     // the argument that names its file
     name: usize,
     // how many bytes it has, at the start of the area that is lent for it
+    // Kept: a slice in its place would keep the area lent, and the loop in `turns` lends it anew for each log.
     length: usize,
     why: Refusal,
 }
@@ -100,12 +101,7 @@ fn turns(
 }
 
 // What goes to standard output: the totals, or the refusal alone.
-fn told(
-    rt: &HostRuntime,
-    refused: Option<Refused>,
-    totals: &Totals,
-    log: &[u8],
-) -> Output<BLOCK>
+fn told(rt: &HostRuntime, refused: Option<Refused>, totals: &Totals, log: &[u8]) -> Output<BLOCK>
     requires { (count : ℕ) × Ends count (Ok refused) totals.now log.now }
     ensures tells { Tells refused totals.now log.now result }
 {

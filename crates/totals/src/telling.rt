@@ -22,6 +22,7 @@ pub const MESSAGE: usize = 8192;
 // ---- the totals
 
 // The line of the channel at place i of the 32.
+#[tactic(auto, using(crate::proofs::Table::line_follows))]
 fn put_channel(output: &mut Output<BLOCK>, i: usize, c: &Channel)
     requires { i < 32 }
     ensures follows { Follows BLOCK output.old (line_of i c.now) output.new }
@@ -33,6 +34,7 @@ fn put_channel(output: &mut Output<BLOCK>, i: usize, c: &Channel)
 }
 
 // Whether it may be more.
+#[tactic(auto, unfolding(formats::specs::Checks::text))]
 fn put_more(output: &mut Output<BLOCK>, more: bool)
     ensures follows { Follows BLOCK output.old (or_more more) output.new }
 {
@@ -42,6 +44,7 @@ fn put_more(output: &mut Output<BLOCK>, more: bool)
 }
 
 // The last line.
+#[tactic(auto, using(streams::proofs::Following::follows_more), unfolding(crate::specs::Telling::unknown_line, formats::specs::Checks::text))]
 fn put_unknown(output: &mut Output<BLOCK>, beside: Beside)
     ensures follows { Follows BLOCK output.old (unknown_line beside) output.new }
 {
@@ -62,6 +65,7 @@ fn put_table(output: &mut Output<BLOCK>, totals: &Totals)
 }
 
 // The same where nothing is gathered yet, and the block has room for all of it.
+#[tactic(auto, using(crate::proofs::Fits::table_whole))]
 pub fn table_whole(rt: &HostRuntime, totals: &Totals) -> Output<BLOCK>
     ensures open { result.open ≡ true }
     ensures whole { result.waits ≡ table_of totals.now.channels totals.now.beside }
@@ -74,6 +78,7 @@ pub fn table_whole(rt: &HostRuntime, totals: &Totals) -> Output<BLOCK>
 // ---- a log that is refused
 
 // Its line on standard output, where nothing is gathered yet.
+#[tactic(auto, using(crate::proofs::Fits::refusal_whole), unfolding(crate::specs::Telling::refusal_line))]
 pub fn refusal_whole(rt: &HostRuntime, why: Refusal) -> Output<BLOCK>
     ensures open { result.open ≡ true }
     ensures whole { result.waits ≡ refusal_line (number_of why) }
@@ -97,6 +102,7 @@ fn put_name(output: &mut Output<MESSAGE>, name: &[u8])
 }
 
 // An earlier tick than the last one.
+#[tactic(auto, using(streams::proofs::Following::follows_more), unfolding(crate::specs::Telling::tick_text, formats::specs::Checks::text))]
 fn put_tick(output: &mut Output<MESSAGE>, beside: Beside, first: Record)
     ensures follows { Follows MESSAGE output.old (tick_text beside first) output.new }
 {
@@ -135,13 +141,7 @@ fn put_reason(output: &mut Output<MESSAGE>, why: Refusal, beside: Beside, log: &
 }
 
 // The message.
-fn put_message(
-    output: &mut Output<MESSAGE>,
-    name: &[u8],
-    why: Refusal,
-    beside: Beside,
-    log: &[u8],
-)
+fn put_message(output: &mut Output<MESSAGE>, name: &[u8], why: Refusal, beside: Beside, log: &[u8])
     requires { HasFirst (number_of why) log.now }
     ensures follows { Follows MESSAGE output.old (message_of name.now (number_of why) beside log.now) output.new }
 {
@@ -153,6 +153,7 @@ fn put_message(
 }
 
 // The same where nothing is gathered yet, and the block has room for all of it.
+#[tactic(auto, using(crate::proofs::Fits::message_whole))]
 pub fn message_whole(
     rt: &HostRuntime,
     name: &[u8],

@@ -3,8 +3,7 @@
 use Rattle.channels.specs.Totals.{unused}
 use mathlib.Core.Path.{refl}
 use native.Mathlib.Omega.{arith}
-use borrow.Author.Rules.{rules}
-use Rattle.totals.proofs.Table.{table_begins, table_on, table_over}
+use Rattle.totals.proofs.Table.{table_on, table_over}
 use Rattle.totals.proofs.telling.put_table.Goals as goal
 
 pub loop-i-preserved : goal.loop-i-preserved
