@@ -66,6 +66,7 @@ fn is_counted(plan: &[u32]) -> bool
 }
 
 // Move k of the plan.
+// Kept: a plan is numbers, as C lends it (nizhalepu_plan); with chunks_exact(4) these four indices would stand here and in each loop.
 pub fn move_at(plan: &[u32], k: usize) -> Move
     requires { (k < 16) × (4 * k + 4 ≤ length plan.now) }
     ensures numbers { result ≡ move_at plan.now k }
@@ -107,6 +108,7 @@ fn are_timed(plan: &[u32]) -> bool
 
 // ---- lines
 // Each function below writes lines from line `at` on, and returns the number of the line behind them.
+// Kept: area and place come in and the next place goes out, as in the writers of formats; a struct of both would add a type and a fact.
 
 // A State line.
 fn put_state(program: &mut [u8], at: usize, word: u32, time: u32) -> usize
