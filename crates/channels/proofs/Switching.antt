@@ -4,7 +4,7 @@ use mathlib.Core.Path.{◌≡◌, refl, sym, ap, subst, ◌∙◌}
 use mathlib.Core.Logic.{◌≢◌}
 use Prim.Native.Nat.{ℕ, zero, suc, ◌+◌, ◌-◌, ◌*◌, ◌/◌, ◌%◌, ◌^◌, ◌≤◌, ◌<◌}
 use native.Mathlib.Omega.{arith}
-use native.Mathlib.Nat.{add-zero, mod-lt}
+use native.Mathlib.Nat.{mod-lt}
 use mathlib.Core.Bool.{Bool, true, false, not, ◌&&◌, true≢false}
 use mathlib.Core.List.{List, [], ◌∷◌, ◌++◌}
 use lib.ListN.{get_or, set, length-set}
@@ -272,23 +272,6 @@ bit_or_test g (suc zero) tick n lt =
     λ i. record { closings = once g.closings n i; openings = none_of g.openings n i; ticks = none_of g.ticks (tick - g.since) i; since = tick }
 bit_or_test g (suc (suc v)) tick n lt = absurd (omega arith)
 
--- a product with 0 or 1
-pub by_one : (v n m : ℕ) → v ≤ 1 → n ≤ m → v * n ≤ m
-by_one zero n m one le = omega arith
-by_one (suc zero) n m one le = omega arith
-by_one (suc (suc v)) n m one le = absurd (omega arith)
-
-pub low_bit : (w : ℕ) → w % 2 ≤ 1
-low_bit w = omega arith
-
 pub switched_by : (g : Gain) (w tick n : ℕ) → by_bit g (w % 2) tick n ≡ switched_of g w tick n
 unfolding switched_of
 switched_by g w tick n = bit_or_test g (w % 2) tick n (mod-lt w (omega arith))
-
-pub closed_then : (g : Gain) (last : Beside) (i : ℕ) → is_closed i last.word ≡ true → g.ticks + (last.tick - g.since) ≡ closed_for g last i
-unfolding closed_for
-closed_then g last i e = rw e
-
-pub open_then : (g : Gain) (last : Beside) (i : ℕ) → is_closed i last.word ≡ false → g.ticks ≡ closed_for g last i
-unfolding closed_for
-open_then g last i e = rw e (sym (add-zero g.ticks))
