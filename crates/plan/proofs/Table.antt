@@ -18,9 +18,6 @@ use Rattle.plan.specs.Telling.{move_line, total_line, table_from, table}
 pub record Tells (size : ℕ) (ns : List ℕ) (first : Waiting) (k at : ℕ) (o : Waiting) : Type 0 where
   pub rest : {r : Waiting} → Follows size o (table_from k at (moves_of (drop (4 * k) ns))) r → Follows size first (table (moves_of ns)) r
 
-pub table_begins : (size : ℕ) (ns : List ℕ) (o : Waiting) → Tells size ns o 0 0 o
-table_begins size ns o = record { rest = λ f. f }
-
 module _ {size : ℕ} {ns : List ℕ} {first : Waiting} {k at : ℕ} {o : Waiting} (t : Tells size ns first k at o) where
   -- one line more
   pub table_on : {next : ℕ} {o' : Waiting} {m : Move} → 4 * k + 4 ≤ length ns → m ≡ move_at ns k
