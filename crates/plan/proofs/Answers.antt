@@ -74,6 +74,8 @@ pub program_told : {check : Bool} (ns : List ℕ) {left : List ℕ} → check �
     → left ≡ area_of (planned ns zeros) zeros → left ≡ told check ns
 program_told {check} ns so is area = rw so (taken_told false ns is area)
 
+pub ruleset by_answer = (refusal_told, taken, table_told, program_told)
+
 -- ---- how long
 
 -- four numbers are a move

@@ -13,10 +13,6 @@ pub read_none : (r : Reader) → ReadOn r r
 unfolding fed
 read_none r = record { bytes = []; read = refl }
 
--- some bytes
-pub read_fed : {q r : Reader} (bytes : List ℕ) → r ≡ fed q bytes → ReadOn q r
-read_fed bytes is = record { bytes = bytes; read = is }
-
 -- one behind the other
 pub read_more : {q m r : Reader} → ReadOn q m → ReadOn m r → ReadOn q r
 read_more {q} {m} {r} f g = record {

@@ -81,14 +81,14 @@ told_whole check ns f = waits_whole (told_within check ns) (omega arith) f
 
 fault_within : (e : Fault) → Within 60 (fault_text e)
 unfolding fault_text text
-fault_within NoWord = room 60 (lit "the word of the move is not eight hex digits") (omega arith)
-fault_within NoSettling = room 60 (lit "the settling time is not a decimal number") (omega arith)
-fault_within NoReadingWord = room 60 (lit "the word of the reading is not eight hex digits") (omega arith)
-fault_within NoReading = room 60 (lit "the reading time is not a decimal number") (omega arith)
-fault_within SettlingMissing = room 60 (lit "the settling time is missing") (omega arith)
-fault_within ReadingWordMissing = room 60 (lit "the word of the reading is missing") (omega arith)
-fault_within ReadingMissing = room 60 (lit "the reading time is missing") (omega arith)
-fault_within Behind = room 60 (lit "something stands behind the reading time") (omega arith)
+fault_within NoWord = record { fits = omega arith }
+fault_within NoSettling = record { fits = omega arith }
+fault_within NoReadingWord = record { fits = omega arith }
+fault_within NoReading = record { fits = omega arith }
+fault_within SettlingMissing = record { fits = omega arith }
+fault_within ReadingWordMissing = record { fits = omega arith }
+fault_within ReadingMissing = record { fits = omega arith }
+fault_within Behind = record { fits = omega arith }
 
 lines_within : (line : ℕ) (e : Fault) → Within 200 (fault_lines line e)
 unfolding fault_lines move_form text

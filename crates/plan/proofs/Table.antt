@@ -9,7 +9,7 @@ use Rattle.streams.specs.Gathering.{Waiting, Follows}
 use Rattle.streams.proofs.Following.{follows_more}
 use Rattle.planner.specs.declared.Move.{Move}
 use Rattle.planner.specs.Plan.{move_at, moves_of, move_ticks, total}
-use Rattle.planner.proofs.Moves.{moves_on, moves_over}
+use Rattle.planner.proofs.Moves.{moves_on, moves_over, counted_is}
 use Rattle.plan.specs.Telling.{move_line, total_line, table_from, table}
 
 -- ---- the loop over moves
@@ -17,9 +17,6 @@ use Rattle.plan.specs.Telling.{move_line, total_line, table_from, table}
 -- The moves before number k are told, and the next begins at tick `at`: with the table from there on the table of the plan is whole.
 pub record Tells (size : ℕ) (ns : List ℕ) (first : Waiting) (k at : ℕ) (o : Waiting) : Type 0 where
   pub rest : {r : Waiting} → Follows size o (table_from k at (moves_of (drop (4 * k) ns))) r → Follows size first (table (moves_of ns)) r
-
-pub table_begins : (size : ℕ) (ns : List ℕ) (o : Waiting) → Tells size ns o 0 0 o
-table_begins size ns o = record { rest = λ f. f }
 
 module _ {size : ℕ} {ns : List ℕ} {first : Waiting} {k at : ℕ} {o : Waiting} (t : Tells size ns first k at o) where
   -- one line more
@@ -39,6 +36,8 @@ module _ {size : ℕ} {ns : List ℕ} {first : Waiting} {k at : ℕ} {o : Waitin
   pub table_over : {r : Waiting} → length ns ≤ 4 * k → Follows size o (total_line at) r → Follows size first (table (moves_of ns)) r
   unfolding table_from
   table_over {r} over f = t.rest (subst (λ ms. Follows size o (table_from k at ms) r) (sym (moves_over ns k over)) f)
+
+pub ruleset by_moves = (table_on, table_over, counted_is)
 
 -- ---- the total
 

@@ -13,8 +13,8 @@ use streams::{Output, arguments};
 
 mod telling;
 
-// The next piece of the text is read, as far as there is one, and whether to read on: behind a fault nothing more counts.
-#[tactic(auto, using(crate::proofs::Feeding::read_none, crate::proofs::Feeding::read_fed))]
+// The next piece of the text is read, as far as there is one, and whether to read on: behind a fault nothing more counts. No output waits meanwhile.
+#[tactic(auto, using(crate::proofs::Feeding::read_none))]
 fn turn(rt: &HostRuntime, input: &mut Input, reader: &mut Reader) -> Result<bool, Failed>
     ensures reads { ReadOn reader.old reader.new }
 {

@@ -110,7 +110,7 @@ fn put_total(output: &mut Output<BLOCK>, at: u64)
 }
 
 // The table of a plan that is taken.
-#[tactic(auto, using(crate::proofs::Table::table_on, crate::proofs::Table::table_over, planner::proofs::Moves::counted_is))]
+#[tactic(auto, using(crate::proofs::Table::by_moves))]
 fn put_table(output: &mut Output<BLOCK>, plan: &[u32])
     requires { is_counted plan.now ≡ true }
     ensures follows { Follows BLOCK output.old (table (moves_of plan.now)) output.new }
@@ -127,7 +127,7 @@ fn put_table(output: &mut Output<BLOCK>, plan: &[u32])
 // ---- a plan
 
 // The program of a plan that is taken, or its table; or why it is refused.
-#[tactic(auto, using(crate::proofs::Answers::refusal_told, crate::proofs::Answers::taken, crate::proofs::Answers::table_told, crate::proofs::Answers::program_told, streams::proofs::Following::puts_follows))]
+#[tactic(auto, using(crate::proofs::Answers::by_answer))]
 fn put_told(output: &mut Output<BLOCK>, plan: &[u32], check: bool)
     ensures follows { Follows BLOCK output.old (told check plan.now) output.new }
 {
