@@ -17,7 +17,7 @@ ghost use Rattle.controller.specs.declared.Controller.{Controller};
 ghost use Rattle.controller.specs.Controller.{with_panel};
 ghost use Rattle.controller.specs.Deeds.{read, ended, asked};
 
-use formats::Error;
+use formats::{Error, Text};
 use running::Run;
 use special::Mode;
 use variables::Panel;
@@ -53,8 +53,10 @@ pub fn reply_error(e: Error, reply: &mut [u8]) -> usize
     requires { 16 ≤ length reply.old }
     ensures wrote { Wrote 0 (ended (error_text (number_of e))) reply.old result reply.new }
 {
-    let at = formats::put_error(reply, 0, e);
-    formats::put_char(reply, at, 13)
+    let mut text = Text::new(reply);
+    text.error(e);
+    text.char(b'\r');
+    text.at
 }
 
 // What a read of address k shows.
@@ -69,8 +71,10 @@ pub fn reply_value(
     requires { IsProgram program.now × (k ≤ 216) × (16 ≤ length reply.old) }
     ensures wrote { Wrote 0 (ended (value panel run paused program.now k)) reply.old result reply.new }
 {
-    let at = variables::put_value(reply, 0, panel, run, paused, program, k);
-    formats::put_char(reply, at, 13)
+    let mut text = Text::new(reply);
+    variables::put_value(&mut text, panel, run, paused, program, k);
+    text.char(b'\r');
+    text.at
 }
 
 // "An accepted write answers OK."

@@ -9,6 +9,7 @@ pub mod Bytes
 pub mod Places
 pub mod Writing
 pub mod DigitsWritten
+pub mod TextWritten
 pub mod Decimals
 pub mod Order
 pub mod Refusals

@@ -5,4 +5,5 @@ pub mod Bytes
 pub mod Numbers
 pub mod Errors
 pub mod Writing
+pub mod TextWritten
 pub mod Order

@@ -4,13 +4,14 @@
 // below stand for, specs/Writing.antt for what writing into an area leaves there.
 #![tactic(auto)]
 
-ghost use Rattle.std.specs.Prelude.{◌≡◌, [], ◌∷◌, ◌++◌, ℕ, ◌+◌, ◌*◌, ◌≤◌, ◌<◌, min, length, IfSome};
+ghost use Rattle.std.specs.Prelude.{◌≡◌, [], ◌∷◌, ◌++◌, ℕ, ◌+◌, ◌*◌, ◌≤◌, ◌<◌, min, length, take, drop, IfSome};
 ghost use Rattle.std.specs.Option.{unwrap_or};
 ghost use Rattle.formats.specs.Errors.{number_of as number_of_error, distinct as distinct_errors};
 ghost use Rattle.formats.specs.Digits.{number, digit_value, digit_char, shown, number_in, h_in, d_in, width, most_digits, decimal, decimal_in, error_text};
 ghost use Rattle.formats.specs.Bytes.{bytes};
 ghost use Rattle.formats.specs.Numbers.{res_of, res_or, most_written};
 ghost use Rattle.formats.specs.Writing.{Wrote};
+ghost use Rattle.formats.specs.TextWritten.{Writes};
 
 // ---- errors and refusals
 
@@ -98,6 +99,17 @@ pub fn four_bytes(v: u32) -> [u8; 4]
     ensures bytes { result ≡ bytes 4 v }
 {
     v.to_be_bytes()
+}
+
+// The first n bytes of `to` become those of `from`, and the rest of `to` stays.
+// Kept: byte by byte, and not by copy_from_slice, which is a call of memmove: the C interface asks no more of a C library than memcpy and memset.
+pub fn copy(from: &[u8], to: &mut [u8], n: usize)
+    requires { (n ≤ length from.now) × (n ≤ length to.old) }
+    ensures copied { to.new ≡ take n from.now ++ drop n to.old }
+{
+    for i in 0..n {
+        to[i] = from[i];
+    }
 }
 
 // ---- characters
@@ -197,48 +209,77 @@ fn width(v: u64) -> usize
 }
 
 // ---- text in an area
-// Each writer below writes from place `at` on, leaves every other byte, and returns the place behind what it wrote.
 
-// A character.
-pub fn put_char(area: &mut [u8], at: usize, c: u8) -> usize
-    requires { at < length area.old }
-    ensures wrote { Wrote at (c ∷ []) area.old result area.new }
-    ensures near { result ≡ at + 1 }
-{
-    area[at] = c;
-    at + 1
+// Text that is written into a lent area: the place where the next piece stands. What is written leaves every other byte.
+#[derive(Drop)]
+pub struct Text<'a> {
+    pub area: &'a mut [u8],
+    pub at: usize,
+}
+
+impl<'a> Text<'a> {
+    // Text that begins at the start of an area.
+    pub fn new(area: &'a mut [u8]) -> Text<'a>
+        ensures same_reference { result.area.ghost_name ≡ area.entry.ghost_name }
+        ensures start { (result.area.now ≡ area.old) × (result.at ≡ 0) }
+    {
+        Text { area, at: 0 }
+    }
+
+    // A character.
+    pub fn char(&mut self, c: u8)
+        requires { self.old.at < length self.old.area.now }
+        ensures same_reference { self.new.area.ghost_name ≡ self.old.area.ghost_name }
+        ensures wrote { Writes (c ∷ []) self.old self.new }
+        ensures near { self.new.at ≡ self.old.at + 1 }
+    {
+        self.area[self.at] = c;
+        self.at += 1;
+    }
+
+    // A number in n digits to a base, from the last to the first.
+    pub fn digits(&mut self, base: u64, n: usize, v: u64)
+        requires { (self.old.at + n ≤ length self.old.area.now) × (1 < base) × (base ≤ 16) }
+        ensures same_reference { self.new.area.ghost_name ≡ self.old.area.ghost_name }
+        ensures wrote { Writes (shown base n v) self.old self.new }
+        ensures near { self.new.at ≡ self.old.at + n }
+    {
+        let at = self.at;
+        put_digits(self.area, at, base, n, v);
+        self.at += n;
+    }
+
+    // A number in decimal, without leading zeros.
+    pub fn decimal(&mut self, v: u64)
+        requires { self.old.at + length (decimal v) ≤ length self.old.area.now }
+        ensures same_reference { self.new.area.ghost_name ≡ self.old.area.ghost_name }
+        ensures wrote { Writes (decimal v) self.old self.new }
+        ensures near { self.new.at ≡ self.old.at + length (decimal v) }
+    {
+        let n = width(v);
+        self.digits(10, n, v);
+    }
+
+    // E and the number of an error or a refusal in three digits.
+    pub fn error<E: Numbered>(&mut self, e: E)
+        requires { self.old.at + 4 ≤ length self.old.area.now }
+        ensures same_reference { self.new.area.ghost_name ≡ self.old.area.ghost_name }
+        ensures wrote { Writes (error_text (E.number_of e)) self.old self.new }
+        ensures near { self.new.at ≡ self.old.at + 4 }
+    {
+        self.char(b'E');
+        self.digits(10, 3, e.number() as u64);
+    }
 }
 
 // A number in n digits to a base, from the last to the first.
-pub fn put_digits(area: &mut [u8], at: usize, base: u64, n: usize, v: u64) -> usize
+fn put_digits(area: &mut [u8], at: usize, base: u64, n: usize, v: u64)
     requires { (at + n ≤ length area.old) × (1 < base) × (base ≤ 16) }
-    ensures wrote { Wrote at (shown base n v) area.old result area.new }
-    ensures near { result ≡ at + n }
+    ensures wrote { Wrote at (shown base n v) area.old (at + n) area.new }
 {
     let mut rest = v;
     for i in (0..n).rev() {
         area[at + i] = digit_char((rest % base) as u8);
         rest /= base;
     }
-    at + n
-}
-
-// A number in decimal, without leading zeros.
-pub fn put_decimal(area: &mut [u8], at: usize, v: u64) -> usize
-    requires { at + length (decimal v) ≤ length area.old }
-    ensures wrote { Wrote at (decimal v) area.old result area.new }
-    ensures near { result ≡ at + length (decimal v) }
-{
-    let n = width(v);
-    put_digits(area, at, 10, n, v)
-}
-
-// E and the number of an error or a refusal in three digits.
-pub fn put_error<E: Numbered>(area: &mut [u8], at: usize, e: E) -> usize
-    requires { at + 4 ≤ length area.old }
-    ensures wrote { Wrote at (error_text (E.number_of e)) area.old result area.new }
-    ensures near { result ≡ at + 4 }
-{
-    let next = put_char(area, at, b'E');
-    put_digits(area, next, 10, 3, e.number() as u64)
 }

@@ -233,5 +233,5 @@ pub fn copy_program(from: &[u8], to: &mut [u8])
     requires { IsProgram from.now × IsProgram to.old }
     ensures program { to.new ≡ from.now }
 {
-    to.copy_from_slice(from);
+    formats::copy(from, to, PROGRAM);
 }

@@ -5,35 +5,36 @@
 ghost use Rattle.std.specs.Prelude.{◌≡◌, ◌+◌, ◌≤◌, length};
 ghost use Rattle.formats.specs.Errors.{number_of};
 ghost use Rattle.formats.specs.Numbers.{res_of, res_or};
-ghost use Rattle.formats.specs.Writing.{Wrote};
+ghost use Rattle.formats.specs.TextWritten.{Writes};
 ghost use Rattle.texts.specs.Text.{line_text, counter_in, state_in, for_in, next_in, line_in};
 
-use formats::Error;
+use formats::{Error, Text};
 use lines::Line;
 
-// The characters of a line are written from place `at` on, none of a Bad one, and every other byte stays. The place behind them is returned.
-pub fn put_line_text(area: &mut [u8], at: usize, l: Line) -> usize
-    requires { at + 15 ≤ length area.old }
-    ensures wrote { Wrote at (line_text l) area.old result area.new }
-    ensures near { result ≤ at + 15 }
+// The characters of a line are written behind a text, none of a Bad one.
+pub fn put_line_text(text: &mut Text, l: Line)
+    requires { text.old.at + 15 ≤ length text.old.area.now }
+    ensures same_reference { text.new.area.ghost_name ≡ text.old.area.ghost_name }
+    ensures wrote { Writes (line_text l) text.old text.new }
+    ensures near { text.new.at ≤ text.old.at + 15 }
 {
     match l {
         Line::State { outputs, time } => {
-            let letter = formats::put_char(area, at, b'S');
-            let reserved = formats::put_digits(area, letter, 10, 2, 0);
-            let word = formats::put_digits(area, reserved, 16, 8, outputs as u64);
-            formats::put_digits(area, word, 10, 4, time as u64)
+            text.char(b'S');
+            text.digits(10, 2, 0);
+            text.digits(16, 8, outputs as u64);
+            text.digits(10, 4, time as u64);
         }
         Line::For { counter, count } => {
-            let letter = formats::put_char(area, at, b'F');
-            let digit = formats::put_digits(area, letter, 10, 1, counter as u64);
-            formats::put_digits(area, digit, 10, 4, count as u64)
+            text.char(b'F');
+            text.digits(10, 1, counter as u64);
+            text.digits(10, 4, count as u64);
         }
         Line::Next { counter } => {
-            let letter = formats::put_char(area, at, b'N');
-            formats::put_digits(area, letter, 10, 1, counter as u64)
+            text.char(b'N');
+            text.digits(10, 1, counter as u64);
         }
-        Line::Bad => at,
+        Line::Bad => {}
     }
 }
 

@@ -5,12 +5,13 @@
 ghost use Rattle.std.specs.Prelude.{◌≡◌, ◌+◌, ◌-◌, ◌*◌, ◌≤◌, length};
 ghost use Rattle.lines.specs.Program.{IsProgram};
 ghost use Rattle.formats.specs.Digits.{h, d, 2d};
-ghost use Rattle.formats.specs.Writing.{Wrote};
+ghost use Rattle.formats.specs.TextWritten.{Writes};
 ghost use Rattle.lines.specs.Line.{read_line, bytes_of};
 ghost use Rattle.running.specs.Running.{counter};
 ghost use Rattle.variables.specs.Panel.{fresh_panel, with_single, with_parameter, with_special, with_event};
 ghost use Rattle.variables.specs.Variables.{line_of, is_bad_at, status_bits, output_byte, with_output_byte, value};
 
+use formats::Text;
 use lines::Line;
 use running::Run;
 
@@ -142,22 +143,15 @@ pub fn is_bad_at(panel: Panel, program: &[u8], k: u8) -> bool
     k <= 200 && lines::is_bad(line_of(panel, program, k))
 }
 
-// What a read of address k shows is written into an area from place `at` on; every other byte stays, and the place behind it is returned.
-pub fn put_value(
-    area: &mut [u8],
-    at: usize,
-    panel: Panel,
-    run: Run,
-    paused: bool,
-    program: &[u8],
-    k: u8,
-) -> usize
-    requires { IsProgram program.now × (k ≤ 216) × (at + 15 ≤ length area.old) }
-    ensures wrote { Wrote at (value panel run paused program.now k) area.old result area.new }
-    ensures near { result ≤ at + 15 }
+// What a read of address k shows is written behind a text.
+pub fn put_value(text: &mut Text, panel: Panel, run: Run, paused: bool, program: &[u8], k: u8)
+    requires { IsProgram program.now × (k ≤ 216) × (text.old.at + 15 ≤ length text.old.area.now) }
+    ensures same_reference { text.new.area.ghost_name ≡ text.old.area.ghost_name }
+    ensures wrote { Writes (value panel run paused program.now k) text.old text.new }
+    ensures near { text.new.at ≤ text.old.at + 15 }
 {
     let (base, digits, v) = match k {
-        0..=200 => return texts::put_line_text(area, at, line_of(panel, program, k)),
+        0..=200 => return texts::put_line_text(text, line_of(panel, program, k)),
         201 => (16, 2, status(panel.unread, run.on, paused) as u64),
         202 | 207 => (16, 2, 0),
         203..=206 => (16, 2, output_byte(run.outputs, k) as u64),
@@ -168,5 +162,5 @@ pub fn put_value(
         212 => (10, 3, panel.event as u64),
         _ => (10, 4, run.counters[(k - 213) as usize].count as u64),
     };
-    formats::put_digits(area, at, base, digits, v)
+    text.digits(base, digits, v);
 }

@@ -1,42 +1,27 @@
 -- `texts::put_line_text` meets its contract: letter by letter and number by number.
 -- Assumes nothing.
+use native.Mathlib.Omega.{arith}
 use Rattle.formats.specs.Checks.{text}
-use Rattle.formats.proofs.Writing.{wrote_nothing, wrote_more, wrote_as}
+use Rattle.formats.proofs.TextWritten.{writes_nothing, writes_more, writes_as}
 use Rattle.texts.specs.Text.{line_text}
 use Rattle.texts.proofs.Texts.{zeros}
-use borrow.Author.Rules.{rules}
 use Rattle.texts.proofs.put_line_text.Goals as goal
 
-pub returns-in-State : goal.returns-in-State
+pub returns-in-State-clause-wrote : goal.returns-in-State-clause-wrote
 unfolding line_text text
-returns-in-State c =
-    record {
-      wrote =
-          rw c.in-State.is
-          (wrote_more c.put_char-letter.ensures.wrote (search rules) (wrote_more (wrote_as c.put_digits-reserved.ensures.wrote zeros) (search rules) (wrote_more c.put_digits-word.ensures.wrote (search rules) c.put_digits.ensures.wrote)));
-      near = search rules;
-    }
+returns-in-State-clause-wrote c =
+    rw c.in-State.is
+    (writes_more c.char.ensures.wrote (writes_more (writes_as c.digits.ensures.wrote zeros) (writes_more c.digits-in-State.ensures.wrote c.digits-in-State-2.ensures.wrote)))
 
-pub returns-in-For : goal.returns-in-For
+pub returns-in-For-clause-wrote : goal.returns-in-For-clause-wrote
 unfolding line_text text
-returns-in-For c =
-    record {
-      wrote = rw c.in-For.is (wrote_more c.put_char-letter-in-For.ensures.wrote (search rules) (wrote_more c.put_digits-digit.ensures.wrote (search rules) c.put_digits-in-For.ensures.wrote));
-      near = search rules;
-    }
+returns-in-For-clause-wrote c =
+    rw c.in-For.is (writes_more c.char-in-For.ensures.wrote (writes_more c.digits-in-For.ensures.wrote c.digits-in-For-2.ensures.wrote))
 
-pub returns-in-Next : goal.returns-in-Next
+pub returns-in-Next-clause-wrote : goal.returns-in-Next-clause-wrote
 unfolding line_text text
-returns-in-Next c =
-    record {
-      wrote = rw c.in-Next.is (wrote_more c.put_char-letter-in-Next.ensures.wrote (search rules) c.put_digits-in-Next.ensures.wrote);
-      near = search rules;
-    }
+returns-in-Next-clause-wrote c = rw c.in-Next.is (writes_more c.char-in-Next.ensures.wrote c.digits-in-Next.ensures.wrote)
 
-pub returns-in-Bad : goal.returns-in-Bad
+pub returns-in-Bad-clause-wrote : goal.returns-in-Bad-clause-wrote
 unfolding line_text
-returns-in-Bad c =
-    record {
-      wrote = rw c.in-Bad.is (wrote_nothing _ _);
-      near = search rules;
-    }
+returns-in-Bad-clause-wrote c = rw c.in-Bad.is (writes_nothing _ (omega (arith, c.requires)))

@@ -1,7 +1,7 @@
 -- `variables::put_value` meets its contract, address by address.
 -- Assumes nothing.
 use Rattle.std.proofs.Common.{◌≤◌, ◌∙◌, ap, arith}
-use Rattle.formats.proofs.Writing.{wrote_as}
+use Rattle.formats.proofs.TextWritten.{writes_as}
 use Rattle.texts.specs.Text.{line_text}
 use Rattle.variables.specs.Variables.{value}
 use Rattle.variables.proofs.Addresses.{shows_line, shows_zero, shows_outputs, shows_count, counter_place}
@@ -9,12 +9,12 @@ use Rattle.variables.proofs.put_value.Goals.{in-201, in-202, in-208, in-209, in-
 use Rattle.variables.proofs.put_value.Goals as goal
 
 pub returns-in-0-to-200-clause-wrote : goal.returns-in-0-to-200-clause-wrote
-returns-in-0-to-200-clause-wrote c = wrote_as c.put_line_text.ensures.wrote (ap line_text c.line_of.ensures.line ∙ shows_line _ _ _ _ _ (omega arith))
+returns-in-0-to-200-clause-wrote c = writes_as c.put_line_text.ensures.wrote (ap line_text c.line_of.ensures.line ∙ shows_line _ _ _ _ _ (omega arith))
 
 pub returns-clause-wrote : goal.returns-clause-wrote
 unfolding value
 returns-clause-wrote c =
-    wrote_as c.put_digits.ensures.wrote elim c.match-k.branch [
+    writes_as c.digits.ensures.wrote elim c.match-k.branch [
       | in-201 w ↦ rw (w.base-is, w.in-201.is, w.status.ensures.bits)
       | in-202 w ↦ rw w.base-is (shows_zero c.args.panel c.args.run _ _ _ w.in-202.is)
       | in-208 w ↦ rw (w.base-is, w.in-208.is)
