@@ -92,6 +92,7 @@ fn walked(log: &[u8], n: usize, beside: Beside) -> [Gain; 32]
         let counted = u32::from(r.kind == 1);
         let next = word_from(r);
         let mut altered = word ^ next;
+        // Kept: the set bits from the lowest on, which no iterator of the library goes over.
         while altered != 0 {
             let at = altered.trailing_zeros();
             let i = at as usize;

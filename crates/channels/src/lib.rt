@@ -28,6 +28,7 @@ pub struct Channel {
 }
 
 // What is kept beside the 32 records: tick and word of the last record read, how many changes the logs lost, and whether it may be more.
+// Kept: the C interface has this struct, with the flag beside the number.
 #[repr(C)]
 #[derive(Clone, Copy)]
 pub struct Beside {
