@@ -1,18 +1,16 @@
 -- Calls one after the other: what they leave, and what waits of their replies.
 -- Assumes nothing.
-use mathlib.Core.Bool.{Bool, true, false, not, true≢false}
-use mathlib.Core.List.{List, [], ◌∷◌, ◌++◌, append-nil, map-append, flatten}
+use mathlib.Core.Bool.{Bool, true, false, true≢false}
+use mathlib.Core.List.{List, [], ◌∷◌, ◌++◌, map-append, flatten}
 use mathlib.Core.Path.{◌≡◌, refl, sym, ap, ◌∙◌, subst}
-use Prim.Native.Nat.{ℕ, zero, suc, ◌+◌, ◌≤◌, ◌<◌}
+use Prim.Native.Nat.{ℕ, suc, ◌+◌, ◌≤◌, ◌<◌}
 use native.Mathlib.Omega.{arith}
 use Rattle.std.proofs.lemmas.List.{nil_from_length}
 use lib.ListN.{length, get_or, take, drop, take-append-drop, length-append}
-use lib.Seq.{length-take-le, take-nil, take_all, take-suc}
+use lib.Seq.{take-nil, take-suc}
 use borrow.Author.Tests.{ne_eqb, le-leb}
-use Rattle.controller.specs.Controller.{areas, fresh}
+use Rattle.controller.specs.Controller.{areas}
 use Rattle.controller.specs.Refusals.{Call, power_on, byte, tick, press}
-use Rattle.controller.specs.Invariant.{Invariant}
-use Rattle.controller.proofs.Invariant.{fresh_invariant, call_invariant}
 use Rattle.calls.specs.declared.SwitchBox.{SwitchBox}
 use Rattle.calls.specs.declared.Returned.{Returned}
 use Rattle.calls.specs.Returns.{written_in, after}
@@ -161,28 +159,7 @@ module _ {size : ℕ} (input : List ℕ) (i : ℕ) {h h₁ : Held} {o o₁ : Wai
     all = λ on. absurd (true≢false (sym on));
   }
 
-  -- all of them
-  pub all_fed : length input ≤ i → Feeds size input h o true h₁ o₁
-  all_fed le = record {
-    fed = input;
-    left = [];
-    whole = append-nil input;
-    does = rw (sym (take_all i input le)) d;
-    ends = λ off. absurd (true≢false off);
-    all = λ _. refl;
-  }
-
 -- ---- turns
-
--- some are not none
-some_there : (l : List ℕ) → (l ≡ [] → ⊥) → 0 < length l
-some_there [] ne = absurd (ne refl)
-some_there (x ∷ l) ne = omega arith
-
--- what is nothing with more behind it is nothing
-none_of : (l m : List ℕ) → l ++ m ≡ [] → l ≡ []
-none_of [] m e = refl
-none_of (x ∷ l) m e = absurd (omega (arith, ap length e))
 
 module _ {size : ℕ} where
   -- a read that gave no byte
@@ -194,20 +171,6 @@ module _ {size : ℕ} where
     does = does_nothing h o;
     more = λ on. absurd (true≢false (sym on));
     ends = λ _ _. nil_from_length input none;
-  }
-
-  -- and one that gave some
-  pub some_heard : {input : List ℕ} {h h' : Held} {o o' : Waiting} {on : Bool} → (input ≡ [] → ⊥) → Feeds size input h o on h' o'
-      → Hears size input h o on h' o'
-  some_heard {input} some f = record {
-    fed = f.fed;
-    left = f.left;
-    whole = f.whole;
-    does = f.does;
-    more = λ on.
-        let all : f.fed ≡ input = sym (append-nil f.fed) ∙ ap (λ l. f.fed ++ l) (sym (f.all on)) ∙ f.whole in
-        (f.all on, rw all (some_there input some));
-    ends = λ off opens. absurd (true≢false (sym opens ∙ f.ends off));
   }
 
   -- what was gathered has gone out
@@ -222,18 +185,6 @@ module _ {size : ℕ} where
       does = does_nothing h e;
       more = λ on. absurd (true≢false (sym on));
       ends = λ _ _. refl;
-    }
-
-    -- and these came
-    pub some_came : {input : List ℕ} {on : Bool} {h' : Held} {o' : Waiting} → Hears size input h e on h' o' → Turns size h o on h' o'
-    some_came x = record {
-      empty = e;
-      gone = empty.0;
-      failed = empty.1;
-      fed = x.fed;
-      does = x.does;
-      more = λ on. (x.more on).1;
-      ends = λ off opens. none_of x.fed x.left (x.whole ∙ x.ends off opens);
     }
 
 -- ---- turns one after the other
@@ -277,10 +228,6 @@ module _ {size : ℕ} where
       held = turn_held x.fed x.held t;
       last = λ still. absurd (true≢false (sym still));
     }
-
-  -- so many that no more are made
-  pub turns_end : {n : ℕ} {h : Held} {o : Waiting} → 18446744073709551615 ≤ n → Turned size n h o → Ends size true h o
-  turns_end le x = record { fed = x.fed; ran = x.ran; held = x.held; last = λ _. omega (arith, le, x.many) }
 
 -- ---- the beginning
 

@@ -1,39 +1,15 @@
 -- Laws of turns one after the other.
 -- Assumes nothing.
-use Prim.Native.Nat.{ℕ, ◌+◌, ◌≤◌, ◌<◌}
-use native.Mathlib.Omega.{arith}
-use mathlib.Core.Path.{◌≡◌, refl, sym, ap, subst, ◌∙◌}
-use mathlib.Core.Bool.{Bool, true, false, true≢false}
+use Prim.Native.Nat.{ℕ, ◌+◌}
+use mathlib.Core.Path.{◌≡◌, refl, sym, ap, ◌∙◌}
+use mathlib.Core.Bool.{Bool, true}
 use mathlib.Core.List.{List, [], ◌∷◌, ◌++◌}
 use lib.ListN.{length, length-append}
-use Rattle.streams.specs.Gathering.{Waiting, nothing_gathered, Passes}
-use Rattle.streams.proofs.Gathering.{passes_same}
+use Rattle.streams.specs.Gathering.{Waiting, nothing_gathered}
 use Rattle.duration.specs.Report.{report}
 use Rattle.duration.specs.Total.{adds, capped_total, grand_total}
 use Rattle.duration.proofs.Totals.{none_kept, total_more}
-use Rattle.durations.specs.Telling.{Tells, Turns, Ran, begun, turned, Ends}
-
-module _ {size : ℕ} where
-  -- ---- one turn
-
-  module _ {o m : Waiting} {before : ℕ} (passes : Passes o m) where
-    -- a piece was read, and told
-    pub turn_tells : {p : List ℕ} {o' : Waiting} {after : ℕ} → Tells size m before p o' after → 0 < length p → Turns size o before true o' after
-    turn_tells {p} tells some = record {
-      passed = m;
-      passes = passes;
-      tells = λ _. (p, some, tells);
-      ends = λ off. absurd (true≢false off);
-    }
-
-    -- there was none
-    pub turn_ends : Turns size o before false m before
-    turn_ends = record {
-      passed = m;
-      passes = passes;
-      tells = λ on. absurd (true≢false (sym on));
-      ends = λ _. (refl, refl);
-    }
+use Rattle.durations.specs.Telling.{Turns, Ran, begun, turned}
 
 -- ---- turns one after the other
 
@@ -60,27 +36,3 @@ module _ {size : ℕ} where
           sum = tells.total ∙ ap (λ m. capped_total (m + adds (report p))) g.sum ∙ total_more g.pieces p;
           many = length-append g.pieces (p ∷ []) ∙ ap (λ m. m + 1) g.many;
         }
-
-    -- the last one
-    pub going_ends : on ≡ false → Ends size false o' after
-    going_ends off =
-        let (same, total) = t.ends off in
-        record {
-          pieces = g.pieces;
-          last = o;
-          ran = rw total g.ran;
-          passes = subst (λ x. Passes o x) (sym same) t.passes;
-          sum = total ∙ g.sum;
-          end = λ more. absurd (true≢false (sym more));
-        }
-
-  -- so many as no input has
-  pub going_over : {n : ℕ} {o : Waiting} {total : ℕ} → Going size n o total → 18446744073709551615 ≤ n → Ends size true o total
-  going_over {o = o} g le = record {
-    pieces = g.pieces;
-    last = o;
-    ran = g.ran;
-    passes = passes_same o;
-    sum = g.sum;
-    end = λ _. omega (arith, g.many);
-  }

@@ -1,18 +1,12 @@
 -- Bytes that follow what waits, one put behind the other.
 -- Assumes nothing.
 use mathlib.Core.List.{List, ◌++◌, append_assoc}
-use mathlib.Core.Path.{◌≡◌, ap, ◌∙◌}
+use mathlib.Core.Path.{ap, ◌∙◌}
 use Prim.Native.Nat.{ℕ, ◌+◌, ◌≤◌}
 use native.Mathlib.Omega.{arith}
 use lib.ListN.{length, length-append}
 use borrow.Author.Tests.{le-leb}
 use Rattle.streams.specs.Gathering.{Waiting, waits_after, Puts, Follows}
-
--- one put
-pub puts_follows : {size : ℕ} {o r : Waiting} {bytes : List ℕ} → Puts size o bytes r → Follows size o bytes r
-unfolding waits_after
-puts_follows {size} {o} {r} {bytes} p =
-    record { waits = λ fits. p.waits ∙ rw (le-leb (length o.waits + length bytes) size fits); stays = p.stays }
 
 -- one behind the other
 pub follows_more : {size : ℕ} {o m r : Waiting} {xs ys : List ℕ} → Follows size o xs m → Follows size m ys r → Follows size o (xs ++ ys) r

@@ -2,13 +2,12 @@
 -- Assumes nothing.
 use mathlib.Core.Bool.{true}
 use mathlib.Core.List.{List, [], ◌++◌, append-nil}
-use mathlib.Core.Logic.{◌⊎◌, inl, inr}
 use mathlib.Core.Path.{◌≡◌, refl, ap, ◌∙◌}
 use Prim.Native.Nat.{ℕ, ◌+◌, ◌≤◌, ◌<◌}
 use native.Mathlib.Omega.{arith}
 use lib.ListN.{length}
 use borrow.Author.Tests.{le-leb, lt-leb}
-use Rattle.streams.specs.Gathering.{Waiting, waits_after, more, Puts, Passes}
+use Rattle.streams.specs.Gathering.{Waiting, waits_after, more, Puts}
 
 -- the bytes follow
 pub puts_behind : (size : ℕ) (o : Waiting) (bytes : List ℕ) → length o.waits + length bytes ≤ size → Puts size o bytes (more o bytes)
@@ -41,18 +40,3 @@ puts_out size o r bytes over none failed =
 pub nothing_waits : (size : ℕ) (waited : List ℕ) → length waited ≤ size → waits_after size waited [] ≡ waited
 unfolding waits_after
 nothing_waits size waited fits = rw (le-leb (length waited + 0) size (omega arith)) (append-nil waited)
-
--- ---- reading
-
--- an output that is left alone
-pub passes_same : (o : Waiting) → Passes o o
-passes_same o = (inl refl, λ e. e)
-
--- one after the other
-pub passes_both : {o m r : Waiting} → Passes o m → Passes m r → Passes o r
-passes_both {o} {m} {r} (first, was) (second, is) = (joined first second, λ e. was (is e))
-  where
-    joined : (m ≡ o) ⊎ (m.waits ≡ []) → (r ≡ m) ⊎ (r.waits ≡ []) → (r ≡ o) ⊎ (r.waits ≡ [])
-    joined f (inr z) = inr z
-    joined (inl e) (inl e') = inl (e' ∙ e)
-    joined (inr z) (inl e') = inr (ap (λ x. x.waits) e' ∙ z)

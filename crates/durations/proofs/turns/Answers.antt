@@ -1,6 +1,6 @@
 -- `durations::turns` meets its contract: so many turns were made, each of which told a piece.
 -- Assumes nothing.
-use Rattle.durations.proofs.Going.{going_none, going_on, going_ends, going_over}
+use Rattle.durations.proofs.Going.{going_none, going_on}
 use borrow.Author.Rules.{rules}
 use Rattle.durations.proofs.turns.Goals as goal
 

@@ -1,6 +1,6 @@
 -- `console::Bench::feed` meets its contract: the bytes so far have done what they do.
 -- Assumes nothing.
-use Rattle.console.proofs.Inputs.{does_nothing, one_more, ends_there, all_fed}
+use Rattle.console.proofs.Inputs.{does_nothing, one_more, ends_there}
 use borrow.Author.Rules.{rules}
 use Rattle.console.proofs.Bench.feed.Goals as goal
 
@@ -12,6 +12,3 @@ returns-then-not-take c = record { feeds = ends_there _ _ c.loop-x.invariant (se
 
 pub loop-x-preserved : goal.loop-x-preserved
 loop-x-preserved c = one_more _ _ c.loop-x.invariant (search rules) c.take.ensures.takes.does
-
-pub returns : goal.returns
-returns c = record { feeds = all_fed _ _ c.loop-x.invariant (search rules) }

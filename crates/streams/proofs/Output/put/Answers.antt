@@ -2,7 +2,6 @@
 -- Assumes nothing.
 use Rattle.streams.specs.Gathering.{waits_after}
 use Rattle.streams.proofs.Gathering.{puts_behind, puts_alone, puts_out}
-use Rattle.streams.proofs.Following.{puts_follows}
 use borrow.Author.Rules.{rules}
 use Rattle.streams.proofs.Output.put.Goals as goal
 
