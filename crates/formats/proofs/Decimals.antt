@@ -93,9 +93,6 @@ pub record Counted (v k rest : ℕ) : Type 0 where
   pub all : width most_digits v + 1 ≡ k + width (suc (most_digits - k)) rest
   pub small : rest < 10 ^ suc (most_digits - k)
 
-pub counted_none : (v : ℕ) → v ≤ most_written → Counted v 1 v
-counted_none v le = record { some = omega arith; few = omega arith; all = omega arith; small = omega arith }
-
 module _ (v k rest : ℕ) (c : Counted v k rest) where
   pub counted_all : rest < 10 → k ≡ width most_digits v
   counted_all lt = omega (arith, c.all, width_one (most_digits - k) rest lt)

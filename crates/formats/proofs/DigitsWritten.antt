@@ -45,12 +45,6 @@ module _ (base : ℕ) (area₀ : List ℕ) (at n v : ℕ) where
         others = wrote_as (wrote_nothing (at + n) area₀) (sym none);
       }
 
-  -- none is left: the number stands there
-  pub left_none : {rest : ℕ} {area : List ℕ} → Left 0 rest area → Wrote at all_digits_lem area₀ (at + n) area
-  left_none {rest} {area} l =
-      let z : at + 0 ≡ at = omega arith in
-      subst (λ a. Wrote a all_digits_lem area₀ (at + n) area) z l.others
-
   module _ (room : at + n ≤ length area₀) (j rest c : ℕ) (area : List ℕ) (l : Left (suc j) rest area) (is : c ≡ digit_char (rest % base)) where
     last : take (suc j) all_digits_lem ≡ take j all_digits_lem ++ (get_or all_digits_lem j 0 ∷ [])
     last = take-suc all_digits_lem j 0 (omega (arith, long, l.inside))

@@ -32,9 +32,6 @@ module _ (p : List ℕ) where
   unfolding end_line
   first = first_is_lem (λ k. is_end (line_at p k)) 200 0
 
-  pub end_within : end_line p ≤ 200
-  end_within = first.within
-
   -- no line before it is one
   pub none_before_lem : NoEnd p (end_line p)
   none_before_lem k o lt = no_mark (line_at p k) o (first.none_before k (omega arith) lt)

@@ -77,9 +77,6 @@ first_timed {m} {ms} so is = both_true (is_timed m) (all is_timed ms) (sym (ap (
 pub record TimedFrom (ns : List ℕ) (k : ℕ) : Type 0 where
   pub same : all is_timed (moves_of ns) ≡ all is_timed (moves_of (drop (4 * k) ns))
 
-pub timed_begins : (ns : List ℕ) → TimedFrom ns 0
-timed_begins ns = record { same = refl }
-
 module _ {ns : List ℕ} {k : ℕ} (f : TimedFrom ns k) where
   pub timed_on : 4 * k + 4 ≤ length ns → is_timed (move_at ns k) ≡ true → TimedFrom ns (k + 1)
   timed_on room so = record { same = f.same ∙ ap (all is_timed) (moves_on ns k room) ∙ rw so }

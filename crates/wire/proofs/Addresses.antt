@@ -134,20 +134,12 @@ five_long cs e i d =
     let f : (eqb (char cs 2) (code "I") || eqb (char cs 2) (code "D") || leb 5 (length cs)) ≡ true = e in
     leb-true 5 (length cs) (rw (ne_eqb _ _ i, ne_eqb _ _ d) at f)
 
--- the same by the one test
-pub no_step_long : (cs : List ℕ) → has_address cs ≡ true → is_stepwise cs ≡ false → 5 ≤ length cs
-no_step_long cs e s = leb-true 5 (length cs) (rw s at e)
-
 -- something stands behind the address, or nothing
 pub rest_some : (cs : List ℕ) (at : ℕ) → drop at cs ≡ rest cs → at < length cs → eqb (length (rest cs)) 0 ≡ false
 rest_some cs at e lt = ne_eqb _ _ (λ z. let n : length cs - at ≡ 0 = sym (length-drop at cs) ∙ ap length e ∙ z in omega arith)
 
 pub rest_none : (cs : List ℕ) (at : ℕ) → drop at cs ≡ rest cs → length cs ≤ at → eqb (length (rest cs)) 0 ≡ true
 rest_none cs at e le = eq-eqb (length (rest cs)) 0 (let n : length (rest cs) ≡ length cs - at = sym (ap length e) ∙ length-drop at cs in omega arith)
-
--- a command in the format has room for an address
-pub format_address : (overlong : Bool) (cs : List ℕ) → in_format overlong cs ≡ true → has_address cs ≡ true
-format_address overlong cs e = (both_true (not overlong && eqb (char cs 0) (code "C") && (is_read cs || is_write cs)) (has_address cs) e).1
 
 -- an address that can be written is one of the 217
 pub writable_inside : (k : ℕ) → is_writable k ≡ true → k ≤ 216

@@ -111,9 +111,3 @@ pub ruleset special_ways = (no_number, no_code_lem, not_allowed, out_of_reach, i
 pub ruleset data_ways = (a_line, no_line_lem, outputs, no_outputs, a_parameter, no_parameter, a_special)
 
 pub ruleset command_ways = (short, odd, reads_one, writes_one)
-
--- what was sent is read
-pub heard_sent : (w : Wire) (mode : Mode) (parameter : ℕ) {r : Res Asked} → r ≡ command_in (take w.len w.chars) w mode parameter
-    → r ≡ command w mode parameter
-unfolding command sent
-heard_sent w mode parameter h = h
