@@ -108,7 +108,7 @@ fn are_timed(plan: &[u32]) -> bool
 
 // ---- lines
 // Each function below writes lines from line `at` on, and returns the number of the line behind them.
-// Kept: area and place come in and the next place goes out, as in the writers of formats; a struct of both would add a type and a fact.
+// Kept: each promise (Lays) names the line before and the line behind; of a struct of program and line it would have to name both as well.
 
 // A State line.
 fn put_state(program: &mut [u8], at: usize, word: u32, time: u32) -> usize
