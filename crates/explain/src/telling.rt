@@ -9,6 +9,7 @@ ghost use Rattle.explain.specs.Telling.{read_text, cause_field, fields, first_li
 ghost use Rattle.explain.specs.Telling.{refusal_sentence, running_sentence, sentence, line_end, two_lines, Readable};
 
 use explanation::{Cause, Refusal, Stop};
+use formats::{Error, Text};
 use lines::Line;
 use streams::Output;
 
@@ -33,12 +34,13 @@ fn put_read(output: &mut Told, l: Line)
     ensures follows { Follows BLOCK output.old (read_text l) output.new }
 {
     let mut chars = [0u8; 15];
-    let m = if lines::is_bad(l) {
-        formats::put_error(&mut chars, 0, formats::Error::BadLine)
+    let mut text = Text::new(&mut chars);
+    if lines::is_bad(l) {
+        text.error(Error::BadLine);
     } else {
-        texts::put_line_text(&mut chars, 0, l)
-    };
-    output.put_first(&chars, m);
+        texts::put_line_text(&mut text, l);
+    }
+    output.put(text.written());
 }
 
 // ---- the first line

@@ -226,6 +226,14 @@ impl<'a> Text<'a> {
         Text { area, at: 0 }
     }
 
+    // What stands in the area so far.
+    pub fn written(&self) -> &[u8]
+        requires { self.now.at ≤ length self.now.area.now }
+        ensures written { result.now ≡ take self.now.at self.now.area.now }
+    {
+        &self.area[..self.at]
+    }
+
     // A character.
     pub fn char(&mut self, c: u8)
         requires { self.old.at < length self.old.area.now }

@@ -8,7 +8,7 @@ ghost use Rattle.formats.specs.Digits.{shown, decimal, error_text};
 ghost use Rattle.io.specs.Counts.{IsPrefixLen};
 ghost use Rattle.streams.specs.Gathering.{nothing_gathered, more, Puts, Passes, Follows};
 
-use formats::Numbered;
+use formats::{Numbered, Text};
 use std::io::{Error, Write};
 use std::marker::Model;
 
@@ -155,8 +155,9 @@ impl<const N: usize> Output<N> {
         ensures follows { Follows N self.old (shown base n v) self.new }
     {
         let mut digits = [0u8; 8];
-        let m = formats::put_digits(&mut digits, 0, base, n, v);
-        self.put_first(&digits, m);
+        let mut text = Text::new(&mut digits);
+        text.digits(base, n, v);
+        self.put(text.written());
     }
 
     // A number in decimal, without leading zeros.
@@ -165,18 +166,9 @@ impl<const N: usize> Output<N> {
         ensures follows { Follows N self.old (decimal v) self.new }
     {
         let mut digits = [0u8; 20];
-        let m = formats::put_decimal(&mut digits, 0, v);
-        self.put_first(&digits, m);
-    }
-
-    // The first n bytes of a line are gathered, and at once the byte that stands behind them.
-    fn put_ended(&mut self, mut line: [u8; 21], n: usize, end: u8)
-        requires { n ≤ 20 }
-        ensures puts { Puts N self.old (take n line ++ (end ∷ [])) self.new }
-        ensures follows { Follows N self.old (take n line ++ (end ∷ [])) self.new }
-    {
-        let m = formats::put_char(&mut line, n, end);
-        self.put_first(&line, m);
+        let mut text = Text::new(&mut digits);
+        text.decimal(v);
+        self.put(text.written());
     }
 
     // A number is gathered, in decimal without leading zeros, and the byte that stands behind it.
@@ -185,8 +177,10 @@ impl<const N: usize> Output<N> {
         ensures follows { Follows N self.old (decimal v ++ (end ∷ [])) self.new }
     {
         let mut line = [0u8; 21];
-        let n = formats::put_decimal(&mut line, 0, v);
-        self.put_ended(line, n, end);
+        let mut text = Text::new(&mut line);
+        text.decimal(v);
+        text.char(end);
+        self.put(text.written());
     }
 
     // A word of 32 bits is gathered, in eight capital hex digits, and the byte that stands behind it.
@@ -194,9 +188,11 @@ impl<const N: usize> Output<N> {
         ensures puts { Puts N self.old (shown 16 8 v ++ (end ∷ [])) self.new }
         ensures follows { Follows N self.old (shown 16 8 v ++ (end ∷ [])) self.new }
     {
-        let mut line = [0u8; 21];
-        let n = formats::put_digits(&mut line, 0, 16, 8, v as u64);
-        self.put_ended(line, n, end);
+        let mut line = [0u8; 9];
+        let mut text = Text::new(&mut line);
+        text.digits(16, 8, v as u64);
+        text.char(end);
+        self.put(text.written());
     }
 
     // An error or a refusal is gathered: E, its number in three digits, and the byte that stands behind it.
@@ -204,9 +200,11 @@ impl<const N: usize> Output<N> {
         ensures puts { Puts N self.old (error_text (E.number_of e) ++ (end ∷ [])) self.new }
         ensures follows { Follows N self.old (error_text (E.number_of e) ++ (end ∷ [])) self.new }
     {
-        let mut line = [0u8; 21];
-        let n = formats::put_error(&mut line, 0, e);
-        self.put_ended(line, n, end);
+        let mut line = [0u8; 5];
+        let mut text = Text::new(&mut line);
+        text.error(e);
+        text.char(end);
+        self.put(text.written());
     }
 }
 

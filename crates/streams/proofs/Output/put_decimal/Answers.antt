@@ -4,5 +4,5 @@ use Rattle.formats.proofs.Decimals.{decimal_long}
 use borrow.Author.Rules.{rules}
 use Rattle.streams.proofs.Output.put_decimal.Goals as goal
 
-pub put_decimal-m-requires : goal.put_decimal-m-requires
-put_decimal-m-requires g c = search (rules, decimal_long 19 c.args.v (search rules))
+pub decimal-requires : goal.decimal-requires
+decimal-requires g c = search (rules, decimal_long 19 c.args.v (search rules))
