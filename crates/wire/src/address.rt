@@ -1,5 +1,6 @@
 // The address of a command: check 3, what stands behind it, and check 4, whether it can be written now.
 // Definitions: `address_in`, `has_address`, `rest`, `is_writable`, `is_open` of wire/specs/Command.antt.
+// Kept: a slice with room for an address, which five functions require of it: a struct for it would be made by one function and hold the slice alone.
 ghost use Rattle.std.specs.Prelude.{◌≡◌, true, ◌≤◌, length, drop};
 ghost use Rattle.formats.specs.Errors.{number_of};
 ghost use Rattle.formats.specs.Numbers.{res_of};
