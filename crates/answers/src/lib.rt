@@ -17,7 +17,7 @@ ghost use Rattle.controller.specs.declared.Controller.{Controller};
 ghost use Rattle.controller.specs.Controller.{with_panel};
 ghost use Rattle.controller.specs.Deeds.{read, ended, asked};
 
-use formats::{Error, Text};
+use formats::{Error, Numbered, Text};
 use running::Run;
 use special::Mode;
 use variables::Panel;
@@ -49,9 +49,9 @@ pub fn panel_read(panel: Panel, k: u8) -> Panel
 // ---- the three replies, each ended by byte 13; the bytes behind it stay, and its length is returned
 
 // E and the number of the error.
-pub fn reply_error(e: Error, reply: &mut [u8]) -> usize
+pub fn reply_error<E: Numbered>(e: E, reply: &mut [u8]) -> usize
     requires { 16 ≤ length reply.old }
-    ensures wrote { Wrote 0 (ended (error_text (number_of e))) reply.old result reply.new }
+    ensures wrote { Wrote 0 (ended (error_text (E.number_of e))) reply.old result reply.new }
 {
     let mut text = Text::new(reply);
     text.error(e);

@@ -68,8 +68,8 @@ pub const MOST_TOTAL: u64 = 10 * MOST_TICKS;
 
 // The total so far with one program more: a refused one adds nothing. One more than is told stands for any number above it.
 #[tactic(auto, unfolding(crate::specs::Report::capped_at))]
-pub fn total_with(total: u64, answer: Result<u64, Refusal>) -> u64
-    ensures total { result ≡ capped_total (total + adds (res_of number_of_refusal answer)) }
+pub fn total_with<E: Numbered + Drop>(total: u64, answer: Result<u64, E>) -> u64
+    ensures total { result ≡ capped_total (total + adds (res_of E.number_of answer)) }
 {
     total
         .saturating_add(answer.unwrap_or(0))
