@@ -252,8 +252,11 @@ impl<'a> Text<'a> {
         ensures wrote { Writes (shown base n v) self.old self.new }
         ensures near { self.new.at ≡ self.old.at + n }
     {
-        let at = self.at;
-        put_digits(self.area, at, base, n, v);
+        let mut rest = v;
+        for i in (0..n).rev() {
+            self.area[self.at + i] = digit_char((rest % base) as u8);
+            rest /= base;
+        }
         self.at += n;
     }
 
@@ -277,17 +280,5 @@ impl<'a> Text<'a> {
     {
         self.char(b'E');
         self.digits(10, 3, e.number() as u64);
-    }
-}
-
-// A number in n digits to a base, from the last to the first.
-fn put_digits(area: &mut [u8], at: usize, base: u64, n: usize, v: u64)
-    requires { (at + n ≤ length area.old) × (1 < base) × (base ≤ 16) }
-    ensures wrote { Wrote at (shown base n v) area.old (at + n) area.new }
-{
-    let mut rest = v;
-    for i in (0..n).rev() {
-        area[at + i] = digit_char((rest % base) as u8);
-        rest /= base;
     }
 }
