@@ -55,6 +55,8 @@ impl Bench {
         }
     }
 
+    // Kept: each call below takes the box by value and gives the next one, which is put back: a rule of the project.
+
     // A tick.
     fn tick(&mut self)
         ensures held { self.new ≡ held_by tick self.old (made tick self.old) }

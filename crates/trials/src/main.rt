@@ -114,6 +114,7 @@ fn tried(
 }
 
 // A call that is lent the first bytes of each buffer.
+// Kept: buffers as parameters of their own, since no proof is made where parts of several fields behind one reference are lent.
 fn lent(
     b: SwitchBox,
     call: Call,
