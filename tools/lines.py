@@ -1,5 +1,6 @@
 #!/usr/bin/env python3
-"""Says which lines of definitions and sources are over 160 characters, but for `use` lines, which `rt tidy` writes.
+"""Says which lines of definitions and sources are over 160 characters, but for `use` lines, which `rt tidy` writes, and attributes, which
+`rt fmt` keeps on one line.
 
 Usage: python3 tools/lines.py
 
@@ -12,7 +13,7 @@ import sys
 
 ROOT = os.path.dirname(os.path.dirname(os.path.abspath(__file__)))
 LIMIT = 160
-IS_USE = re.compile(r'\s*(?:pub |ghost )?use ')
+IS_USE = re.compile(r'\s*(?:(?:pub |ghost )?use |#\[tactic)')
 
 
 def main():

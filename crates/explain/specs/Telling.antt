@@ -74,7 +74,8 @@ plain_reason event =
 
 -- why the program stopped on this line, which names counter c
 unfoldable pub reason : Option Cause → ℕ → ℕ → ℕ → List ℕ
-reason (Some (ForLine k)) event line c = text "counter " ++ (digit c ++ (text " was still in use by the For on line " ++ (d k ++ (text ". " ++ busy_advice k line))))
+reason (Some (ForLine k)) event line c =
+    text "counter " ++ (digit c ++ (text " was still in use by the For on line " ++ (d k ++ (text ". " ++ busy_advice k line))))
 reason (Some (Sought n)) event line c =
     text "no Next of counter " ++ (digit n ++ (text " stands on a later line. Write N" ++ (digit n ++ text " on the line where the loop ends.")))
 reason (Some (ForAbove above)) event line c = above_reason above c

@@ -92,6 +92,7 @@ fn followed(p: &[u8], k: u8, limit: u32) -> Option<Stop>
     let mut held = Run::begun(k, 0);
     let mut ran = known::due(held, p, &table);
     let mut tick: u32 = 0;
+    // Kept: a turn is a State line held, however long; nothing is counted.
     while ran.event == 0 {
         let wait = ran.run.wait as u32;
         if limit - tick < wait {

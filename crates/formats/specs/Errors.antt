@@ -1,3 +1,4 @@
+-- Nobody has to believe this: it says how the code goes, and no theorem speaks of it.
 -- The errors of the wire by their numbers. 01, 'The wire': "Errors are E and three digits."
 use Rattle.std.specs.Prelude.{ℕ, ◌≡◌, refl, eqb}
 use Rattle.std.specs.Prelude.{if◌then◌else◌}

@@ -1,4 +1,3 @@
--- Nobody has to believe this: it says how the code goes, and no theorem speaks of it.
 -- What the code answers, as the answer of a chain of checks: a Result with its error by number, or an Option with the error that it stands for.
 use Rattle.std.specs.Prelude.{ℕ, ◌≡◌, Option, Some, None, Result, Ok, Err}
 use Rattle.std.proofs.Common.{sym, ap, ◌∙◌}

@@ -1,3 +1,4 @@
+-- Nobody has to believe this: it says how the code goes, and no theorem speaks of it.
 -- Text that is written into a lent area, piece behind piece.
 use Rattle.std.specs.Prelude.{ℕ, List, ◌≡◌, ◌≤◌, length}
 use Rattle.formats.specs.Writing.{Wrote}

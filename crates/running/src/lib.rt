@@ -217,6 +217,7 @@ impl Run {
     {
         let mut run = self;
         let mut n: u16 = 0;
+        // Kept: n counts the lines run. With a `for` the last line of a call is run in two places, and the compiler sets it apart.
         while n < 400 {
             let line = lines::line_at(p, run.line as usize);
             let Some(counter) = lines::counter_of(line) else {
