@@ -15,6 +15,8 @@ use Rattle.lines.specs.declared.Line.TheVariants.{State, For, Next}
 use Rattle.lines.specs.Line.{end_mark, bytes_of}
 use Rattle.lines.specs.Program.{put_line}
 use Rattle.lines.proofs.Lines.{length_bytes}
+use Rattle.planner.specs.declared.Writer.{Writer}
+use Rattle.planner.specs.Laid.{LaysOn}
 use Rattle.planner.specs.Lines.{longest, loop_lines, remainder, lines_for, laid, Lays}
 
 -- ---- bytes of lines
@@ -70,6 +72,16 @@ pub lays_all : {ls : List Line} {before after : List ℕ} → Lays 0 ls before 2
 lays_all {ls} {before} w long =
     let n : length (laid ls) ≡ 1600 = omega (arith, w.wrote.behind) in
     w.wrote.there ∙ ap (λ l. laid ls ++ l) (drop_of_length-le before {i = 0 + length (laid ls)} (omega arith)) ∙ append-nil (laid ls)
+
+-- ---- the same of a writer
+
+-- more lines right behind
+pub laid_more : {xs ys : List Line} {a b c : Writer} → LaysOn xs a b → 8 * b.at ≤ length a.program.now → LaysOn ys b c → LaysOn (xs ++ ys) a c
+laid_more w room v = record { size = v.size ∙ w.size; lays = lays_more w.lays room v.lays }
+
+-- the same lines, said otherwise
+pub laid_as : {xs ys : List Line} {a b : Writer} → LaysOn xs a b → xs ≡ ys → LaysOn ys a b
+laid_as w is = record { size = w.size; lays = lays_as w.lays is }
 
 -- ---- the lines of a time
 

@@ -4,3 +4,4 @@ pub mod Planned
 pub mod Reasons
 pub mod ByTheRule
 pub mod Refusals
+pub mod Laid

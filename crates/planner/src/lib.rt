@@ -10,6 +10,7 @@ ghost use Rattle.lines.specs.Line.{end_mark};
 ghost use Rattle.lines.specs.Program.{IsProgram};
 ghost use Rattle.planner.specs.Plan.{move_at, moves_of, is_time, is_timed, InRange, Timed};
 ghost use Rattle.planner.specs.Lines.{loop_lines, lines_for, move_lines, plan_lines, Lays};
+ghost use Rattle.planner.specs.Laid.{LaysOn};
 ghost use Rattle.planner.specs.Planned.{is_counted, planned, answered, area_of};
 ghost use Rattle.planner.specs.Refusals.{number_of as number_of_refusal, distinct as distinct_refusals};
 
@@ -107,86 +108,97 @@ fn are_timed(plan: &[u32]) -> bool
 }
 
 // ---- lines
-// Each function below writes lines from line `at` on, and returns the number of the line behind them.
-// Kept: each promise (Lays) names the line before and the line behind; of a struct of program and line it would have to name both as well.
 
-// A State line.
-fn put_state(program: &mut [u8], at: usize, word: u32, time: u32) -> usize
-    requires { IsProgram program.old × (at < 200) × (time ≤ 9999) }
-    ensures lays { Lays at (State word time ∷ []) program.old result program.new }
-    ensures near { result ≡ at + 1 }
-{
-    let state = Line::State {
-        outputs: word,
-        time: time as u16,
-    };
-    lines::put_line(program, at, state);
-    at + 1
+// A program whose lines are written one behind the other: the line that comes next.
+#[derive(Drop)]
+struct Writer<'a> {
+    program: &'a mut [u8],
+    at: usize,
 }
 
-// A loop of a State of the longest time, with so many turns.
-fn put_loop(program: &mut [u8], at: usize, word: u32, turns: u32) -> usize
-    requires { IsProgram program.old × (at ≤ 197) × (turns ≤ 9999) }
-    ensures lays { Lays at (loop_lines word turns) program.old result program.new }
-    ensures near { result ≡ at + 3 }
-{
-    let begin = Line::For {
-        counter: 1,
-        count: turns as u16,
-    };
-    lines::put_line(program, at, begin);
-    let next = put_state(program, at + 1, word, LONGEST);
-    lines::put_line(program, next, Line::Next { counter: 1 });
-    next + 1
-}
-
-// The lines that have the outputs stand at a word for some ticks.
-fn put_time(program: &mut [u8], at: usize, word: u32, time: u32) -> usize
-    requires { IsProgram program.old × (at ≤ 196) × InRange time }
-    ensures lays { Lays at (lines_for word time) program.old result program.new }
-    ensures near { result ≤ at + 4 }
-{
-    if time <= LONGEST {
-        return put_state(program, at, word, time);
+impl<'a> Writer<'a> {
+    // A State line.
+    fn state(&mut self, word: u32, time: u32)
+        requires { IsProgram self.old.program.now × (self.old.at < 200) × (time ≤ 9999) }
+        ensures same_reference { self.new.program.ghost_name ≡ self.old.program.ghost_name }
+        ensures lays { LaysOn (State word time ∷ []) self.old self.new }
+        ensures near { self.new.at ≡ self.old.at + 1 }
+    {
+        let state = Line::State {
+            outputs: word,
+            time: time as u16,
+        };
+        lines::put_line(self.program, self.at, state);
+        self.at += 1;
     }
-    let next = put_loop(program, at, word, time / LONGEST);
-    let rest = time % LONGEST;
-    if rest == 0 {
-        return next;
+
+    // A loop of a State of the longest time, with so many turns.
+    fn looped(&mut self, word: u32, turns: u32)
+        requires { IsProgram self.old.program.now × (self.old.at ≤ 197) × (turns ≤ 9999) }
+        ensures same_reference { self.new.program.ghost_name ≡ self.old.program.ghost_name }
+        ensures lays { LaysOn (loop_lines word turns) self.old self.new }
+        ensures near { self.new.at ≡ self.old.at + 3 }
+    {
+        let begin = Line::For {
+            counter: 1,
+            count: turns as u16,
+        };
+        lines::put_line(self.program, self.at, begin);
+        self.at += 1;
+        self.state(word, LONGEST);
+        lines::put_line(self.program, self.at, Line::Next { counter: 1 });
+        self.at += 1;
     }
-    put_state(program, next, word, rest)
-}
 
-// The lines of a move.
-fn put_move(program: &mut [u8], at: usize, m: Move) -> usize
-    requires { IsProgram program.old × (at ≤ 192) × Timed m }
-    ensures lays { Lays at (move_lines m) program.old result program.new }
-    ensures near { result ≤ at + 8 }
-{
-    let next = put_time(program, at, m.moveword, m.settling);
-    put_time(program, next, m.readingword, m.reading)
-}
+    // The lines that have the outputs stand at a word for some ticks.
+    fn stretch(&mut self, word: u32, time: u32)
+        requires { IsProgram self.old.program.now × (self.old.at ≤ 196) × InRange time }
+        ensures same_reference { self.new.program.ghost_name ≡ self.old.program.ghost_name }
+        ensures lays { LaysOn (lines_for word time) self.old self.new }
+        ensures near { self.new.at ≤ self.old.at + 4 }
+    {
+        if time <= LONGEST {
+            self.state(word, time);
+            return;
+        }
+        self.looped(word, time / LONGEST);
+        let rest = time % LONGEST;
+        if rest != 0 {
+            self.state(word, rest);
+        }
+    }
 
-// The lines of all moves, from line 000 on.
+    // The lines of a move.
+    fn move_of(&mut self, m: Move)
+        requires { IsProgram self.old.program.now × (self.old.at ≤ 192) × Timed m }
+        ensures same_reference { self.new.program.ghost_name ≡ self.old.program.ghost_name }
+        ensures lays { LaysOn (move_lines m) self.old self.new }
+        ensures near { self.new.at ≤ self.old.at + 8 }
+    {
+        self.stretch(m.moveword, m.settling);
+        self.stretch(m.readingword, m.reading);
+    }
+}
+// The lines of all moves, from line 000 on. The number of the line behind them is returned.
 fn put_moves(program: &mut [u8], plan: &[u32]) -> usize
     requires { IsProgram program.old × (is_counted plan.now ≡ true) × (all is_timed (moves_of plan.now) ≡ true) }
     ensures lays { Lays 0 (plan_lines (moves_of plan.now)) program.old result program.new }
     ensures near { result ≤ 128 }
 {
-    let mut at = 0;
+    let mut writer = Writer { program, at: 0 };
     for k in 0..plan.len() / 4 {
-        at = put_move(program, at, move_at(plan, k));
+        writer.move_of(move_at(plan, k));
     }
-    at
+    writer.at
 }
 
-// End marks with all outputs off, up to the last line.
+// End marks with all outputs off, from line `at` to the last.
 fn put_ends(program: &mut [u8], at: usize)
     requires { IsProgram program.old × (at ≤ 200) }
     ensures lays { Lays at (replicate (200 - at) end_mark) program.old 200 program.new }
 {
     for i in at..200 {
-        put_state(program, i, 0, 0);
+        lines::put_line(program, i, lines::end_mark());
     }
 }
 

@@ -3,7 +3,7 @@
 use native.Mathlib.Omega.{arith}
 use mathlib.Core.Path.{refl}
 use borrow.Author.Rules.{rules}
-use Rattle.planner.proofs.Laying.{ends_begin, ends_more}
+use Rattle.planner.proofs.Laying.{put_lays, ends_begin, ends_more}
 use Prim.Native.Nat.{◌≤◌}
 use Rattle.planner.proofs.put_ends.Goals as goal
 
@@ -13,5 +13,5 @@ loop-i-init c = (ends_begin _ _ _ refl, refl)
 pub loop-i-preserved : goal.loop-i-preserved
 loop-i-preserved c =
     let from : c.args.at ≤ c.loop-i.i = search rules in
-    let more = ends_more c.loop-i.invariant.0 from (omega (arith, c.loop-i-test.true, c.loop-i.invariant.1, c.requires.0)) c.put_state.ensures.lays c.put_state.ensures.near in
-    (rw c.put_state.ensures.near at more, search rules)
+    let mark = rw c.end_mark.ensures.line at (put_lays {k = c.loop-i.i} c.put_line.ensures.program) in
+    (ends_more c.loop-i.invariant.0 from (omega (arith, c.loop-i-test.true, c.loop-i.invariant.1, c.requires.0)) mark refl, search rules)

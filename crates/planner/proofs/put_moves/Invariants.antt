@@ -7,4 +7,6 @@ use Rattle.planner.proofs.Moves.{Planned}
 use Rattle.planner.proofs.put_moves.Given as goal
 
 abbrev pub invariant-loop-k : goal.invariant-loop-k
-invariant-loop-k l = (Planned l.plan l.k l.initial.program l.at l.program) × (l.at ≤ 8 * l.k) × (length l.program ≡ length l.initial.program)
+invariant-loop-k l =
+    (Planned l.plan l.k l.initial.writer.program.now l.writer.at l.writer.program.now) × (l.writer.at ≤ 8 * l.k) × (length l.writer.program.now ≡ length l.initial.writer.program.now)
+    × (l.writer.program.ghost_name ≡ l.initial.writer.program.ghost_name)
