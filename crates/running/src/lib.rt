@@ -216,23 +216,20 @@ impl Run {
         ensures ran { result ≡ run_due p.now 400 0 self }
     {
         let mut run = self;
-        let mut n: u16 = 0;
-        // Kept: n counts the lines run. With a `for` the last line of a call is run in two places, and the compiler sets it apart.
-        while n < 400 {
+        for n in 0..400 {
             let line = lines::line_at(p, run.line as usize);
             let Some(counter) = lines::counter_of(line) else {
-                break;
+                return run.last_due(p, n);
             };
-            n += 1;
             let c = (counter - 1) as usize;
             let t = loops::turn_of(p, line, run.line, run.counters[c]);
             run.counters[c] = t.held;
             run.line = t.line;
             if let How::Ends(event) = t.how {
-                return run.ended(event, n);
+                return run.ended(event, n + 1);
             }
         }
-        run.last_due(p, n)
+        run.last_due(p, 400)
     }
 
     // One tick taken unpaused: a State line is held on, or the program goes on to the line after it.

@@ -1,14 +1,11 @@
 -- `running::Run::run_due` meets its contract: the loop keeps what is left to run equal to what was to run; each turn counts one line, and
 -- by both ways out what is left is what the last line leads to.
 -- Assumes nothing.
-use Prim.Native.Nat.{◌-◌, ◌≤◌}
+use Prim.Native.Nat.{◌-◌}
 use mathlib.Core.Path.{◌≡◌}
 use Rattle.running.proofs.Invariant.{Going}
 use Rattle.running.specs.Running.{run_due}
 use Rattle.running.proofs.Run.run_due.Given as goal
 
 abbrev pub invariant-loop-n : goal.invariant-loop-n
-invariant-loop-n l = (l.n ≤ 400) × Going l.run × (run_due l.p 400 0 l.initial.run ≡ run_due l.p (400 - l.n) l.n l.run)
-
-abbrev pub decreases-loop-n : goal.decreases-loop-n
-decreases-loop-n l = 400 - l.n
+invariant-loop-n l = Going l.run × (run_due l.p 400 0 l.initial.run ≡ run_due l.p (400 - l.n) l.n l.run)
