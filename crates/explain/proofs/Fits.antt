@@ -15,7 +15,7 @@ use Rattle.lines.specs.declared.Line.TheVariants.{State, For, Next, Bad}
 use Rattle.lines.specs.Line.{counter_of}
 use Rattle.lines.specs.Program.{line_at}
 use Rattle.texts.proofs.Texts.{text_length}
-use Rattle.streams.specs.Gathering.{Waiting, nothing_gathered, Follows}
+use Rattle.streams.specs.Gathering.{Waiting, Follows}
 use Rattle.streams.proofs.Within.{Within, lit, one_within, both, room, decimal_within, digits_within, error_within, waits_whole}
 use Rattle.explanation.specs.declared.Cause.{Cause}
 use Rattle.explanation.specs.declared.Cause.TheVariants.{ForLine, Sought, ForAbove, StateLine}
@@ -145,7 +145,7 @@ lines_within : (p : List ℕ) (limit : ℕ) (a : Res (Option Stop)) → Within 2
 unfolding two_lines
 lines_within p limit a = both (both (first_within a) (one_within 10)) (both (sentence_within p limit a) (one_within 10))
 
--- In a block of 512 bytes, of which none wait, what is told waits whole, and no write has failed.
-pub told_whole : (p : List ℕ) (limit : ℕ) (a : Res (Option Stop)) {r : Waiting} → Follows 512 nothing_gathered (two_lines p limit a) r
-    → (r.waits ≡ two_lines p limit a) × (r.open ≡ true)
-told_whole p limit a f = waits_whole (lines_within p limit a) (omega arith) f
+-- In a block of 512 bytes, of which none wait, what is told waits whole, and no write fails.
+pub told_whole : (p : List ℕ) (limit : ℕ) (a : Res (Option Stop)) {o r : Waiting} → o.waits ≡ [] → Follows 512 o (two_lines p limit a) r
+    → (r.waits ≡ two_lines p limit a) × (r.open ≡ o.open)
+told_whole p limit a none f = waits_whole (lines_within p limit a) (omega arith) none f

@@ -1,7 +1,7 @@
 // The two lines that are told of a program, gathered for output. Definitions: specs/Telling.antt.
-ghost use Rattle.std.specs.Prelude.{Some, true, ◌++◌, ◌≡◌};
+ghost use Rattle.std.specs.Prelude.{Some, true, [], ◌++◌, ◌≡◌};
 ghost use Rattle.formats.specs.Numbers.{res_of};
-ghost use Rattle.streams.specs.Gathering.{nothing_gathered, Follows};
+ghost use Rattle.streams.specs.Gathering.{Follows};
 ghost use Rattle.explanation.specs.Refusals.{number_of};
 ghost use Rattle.explanation.specs.Report.{report};
 ghost use Rattle.explanation.specs.declared.Cause.TheVariants.{ForLine, Sought, StateLine};
@@ -256,8 +256,8 @@ fn put_told(output: &mut Told, p: &[u8], start: u64, limit: u64)
 
 // The same where nothing is gathered yet: the block has room for all of it.
 pub fn put_whole(output: &mut Told, p: &[u8], start: u64, limit: u64)
-    requires { output.old ≡ nothing_gathered }
-    ensures open { output.new.open ≡ true }
+    requires { output.old.waits ≡ [] }
+    ensures open { output.new.open ≡ output.old.open }
     ensures whole { output.new.waits ≡ two_lines p.now limit (report p.now start limit) }
 {
     put_told(output, p, start, limit);

@@ -8,7 +8,7 @@ use mathlib.Core.List.{List, [], ◌∷◌}
 use lib.ListN.{length}
 use Rattle.formats.specs.Checks.{Res, refused, passed, text}
 use Rattle.formats.proofs.Checks.{if_case}
-use Rattle.streams.specs.Gathering.{Waiting, nothing_gathered, Follows}
+use Rattle.streams.specs.Gathering.{Waiting, Follows}
 use Rattle.streams.proofs.Within.{Within, lit, one_within, both, room, decimal_within, digits_within, error_within, waits_whole}
 use Rattle.planner.specs.declared.Move.{Move}
 use Rattle.planner.specs.Plan.{moves_of}
@@ -73,9 +73,10 @@ told_within check ns = go (planned ns zeros) refl
         if_case (Within 4096) check (λ _. room 4096 (table_within 0 0 (moves_of ns)) (omega arith))
         (λ _. record { fits = omega (arith, program_long (moves_of ns) few, ap length is.program) })
 
--- In a block of 4096 bytes, of which none wait, what is told waits whole, and no write has failed.
-pub told_whole : (check : Bool) (ns : List ℕ) {r : Waiting} → Follows 4096 nothing_gathered (told check ns) r → (r.waits ≡ told check ns) × (r.open ≡ true)
-told_whole check ns f = waits_whole (told_within check ns) (omega arith) f
+-- In a block of 4096 bytes, of which none wait, what is told waits whole, and no write fails.
+pub told_whole : (check : Bool) (ns : List ℕ) {o r : Waiting} → o.waits ≡ [] → Follows 4096 o (told check ns) r
+    → (r.waits ≡ told check ns) × (r.open ≡ o.open)
+told_whole check ns none f = waits_whole (told_within check ns) (omega arith) none f
 
 -- ---- a text that is no plan
 
@@ -102,5 +103,5 @@ lines_within line e =
     (both (lit "a move is WORD SETTLING WORD READING: words of eight hex digits, times in decimal ticks") (one_within 10)))))))
     (omega arith)
 
-pub fault_whole : (line : ℕ) (e : Fault) {r : Waiting} → Follows 4096 nothing_gathered (fault_lines line e) r → r.waits ≡ fault_lines line e
-fault_whole line e f = (waits_whole (lines_within line e) (omega arith) f).0
+pub fault_whole : (line : ℕ) (e : Fault) {o r : Waiting} → o.waits ≡ [] → Follows 4096 o (fault_lines line e) r → r.waits ≡ fault_lines line e
+fault_whole line e none f = (waits_whole (lines_within line e) (omega arith) none f).0

@@ -5,15 +5,14 @@ use Prim.Native.Nat.{ℕ, zero, suc, ◌+◌, ◌/◌, ◌≤◌}
 use Prim.Native.String.{String}
 use native.Mathlib.Omega.{arith}
 use mathlib.Core.List.{List, [], ◌∷◌, ◌++◌}
-use mathlib.Core.Bool.{true}
-use mathlib.Core.Path.{◌≡◌}
+use mathlib.Core.Path.{◌≡◌, ap, ◌∙◌}
 use lib.ListN.{length, length-append}
 use lib.Dec.{ltb}
 use Rattle.formats.specs.Checks.{text}
 use Rattle.formats.specs.Digits.{shown, width, decimal, error_text}
 use Rattle.formats.proofs.Checks.{if_case}
 use Rattle.formats.proofs.Characters.{length_shown}
-use Rattle.streams.specs.Gathering.{Waiting, nothing_gathered, Follows}
+use Rattle.streams.specs.Gathering.{Waiting, Follows}
 
 -- a text of at most n characters
 pub record Within (n : ℕ) (xs : List ℕ) : Type 0 where
@@ -53,8 +52,10 @@ error_within e = both (lit "E") (digits_within 10 3 e)
 
 -- ---- the block
 
--- In a block of which nothing waits, and which has room for it, a text waits whole, and no write has failed.
-pub waits_whole : {n size : ℕ} {xs : List ℕ} {r : Waiting} → Within n xs → n ≤ size → Follows size nothing_gathered xs r → (r.waits ≡ xs) × (r.open ≡ true)
-waits_whole within le f =
+-- In a block of which nothing waits, and which has room for it, a text waits whole, and no write fails.
+pub waits_whole : {n size : ℕ} {xs : List ℕ} {o r : Waiting} → Within n xs → n ≤ size → o.waits ≡ [] → Follows size o xs r
+    → (r.waits ≡ xs) × (r.open ≡ o.open)
+waits_whole {xs = xs} within le none f =
+    let empty = ap length none in
     let fits = within.fits in
-    (f.waits (omega arith), f.stays (omega arith))
+    (f.waits (omega (arith, empty)) ∙ ap (λ w. w ++ xs) none, f.stays (omega (arith, empty)))

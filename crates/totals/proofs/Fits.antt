@@ -9,7 +9,7 @@ use lib.ListN.{length}
 use lib.Dec.{eqb}
 use Rattle.formats.specs.Checks.{text, same}
 use Rattle.formats.proofs.Checks.{if_case}
-use Rattle.streams.specs.Gathering.{Waiting, nothing_gathered, Follows}
+use Rattle.streams.specs.Gathering.{Waiting, Follows}
 use Rattle.streams.proofs.Within.{Within, lit, one_within, both, room, decimal_within, digits_within, error_within, waits_whole}
 use Rattle.reader.specs.declared.Record.{Record}
 use Rattle.reader.specs.declared.Layout.TheVariants.{Sixteen}
@@ -48,14 +48,14 @@ unfolding table_from
 table_within i [] b = room (84 * 0 + 37) (unknown_within b) (omega arith)
 table_within i (c ∷ cs) b = room (84 * length (c ∷ cs) + 37) (both (line_within i c) (table_within (i + 1) cs b)) (omega arith)
 
--- In a block of 4096 bytes, of which none wait, what is told waits whole, and no write has failed.
-pub table_whole : {r : Waiting} (cs : List Channel) (b : Beside) → length cs ≡ 32 → Follows 4096 nothing_gathered (table_of cs b) r
-    → (r.waits ≡ table_of cs b) × (r.open ≡ true)
-table_whole cs b count f = waits_whole (table_within 0 cs b) (omega (arith, count)) f
+-- In a block of 4096 bytes, of which none wait, what is told waits whole, and no write fails.
+pub table_whole : {o r : Waiting} (cs : List Channel) (b : Beside) → length cs ≡ 32 → o.waits ≡ [] → Follows 4096 o (table_of cs b) r
+    → (r.waits ≡ table_of cs b) × (r.open ≡ o.open)
+table_whole cs b count none f = waits_whole (table_within 0 cs b) (omega (arith, count)) none f
 
-pub refusal_whole : {r : Waiting} (e : ℕ) → Follows 4096 nothing_gathered (refusal_line e) r → (r.waits ≡ refusal_line e) × (r.open ≡ true)
+pub refusal_whole : {o r : Waiting} (e : ℕ) → o.waits ≡ [] → Follows 4096 o (refusal_line e) r → (r.waits ≡ refusal_line e) × (r.open ≡ o.open)
 unfolding refusal_line
-refusal_whole e f = waits_whole (both (error_within e) (one_within 10)) (omega arith) f
+refusal_whole e none f = waits_whole (both (error_within e) (one_within 10)) (omega arith) none f
 
 -- ---- the message of a refusal
 
@@ -93,6 +93,6 @@ message_within name e b log =
     (both (name_within name) (both (lit " is refused with ") (both (error_within e) (both (reason_within e b log) (one_within 10)))))
     (omega arith)
 
-pub message_whole : (name : List ℕ) (e : ℕ) (b : Beside) (log : List ℕ) {r : Waiting} → length name ≤ 4096
-    → Follows 8192 nothing_gathered (message_of name e b log) r → r.waits ≡ message_of name e b log
-message_whole name e b log short f = (waits_whole (message_within name e b log) (omega (arith, short)) f).0
+pub message_whole : (name : List ℕ) (e : ℕ) (b : Beside) (log : List ℕ) {o r : Waiting} → length name ≤ 4096 → o.waits ≡ []
+    → Follows 8192 o (message_of name e b log) r → r.waits ≡ message_of name e b log
+message_whole name e b log short none f = (waits_whole (message_within name e b log) (omega (arith, short)) none f).0

@@ -5,7 +5,7 @@ use Rattle.explain.proofs.telling.put_whole.Goals as goal
 
 pub returns : goal.returns
 returns c =
-    let whole = told_whole _ _ _ (rw c.requires at c.put_told.ensures.follows) in
+    let whole = told_whole _ _ _ c.requires c.put_told.ensures.follows in
     record {
       «open» = whole.1;
       whole = whole.0;
