@@ -15,31 +15,27 @@ printf '%s\n' 'formats:' 'streams: formats io' 'words: formats streams' >"$place
 cat >"$place/crates/words/src/main.rt" <<'END'
 #![tactic(auto)]
 
-use formats::Written;
 use streams::{Output, arguments};
 
 // In decimal, and in hex the high word and the low one.
-fn show(output: Output, block: &mut [u8], v: u64) -> Output {
-    let decimal = output.put_number(block, v, b' ');
-    let high = decimal.put_word(block, (v / 4294967296) as u32, b' ');
-    high.put_word(block, (v % 4294967296) as u32, 10)
+fn show(output: &mut Output<64>, v: u64) {
+    output.put_number(v, b' ');
+    output.put_word((v / 4294967296) as u32, b' ');
+    output.put_word((v % 4294967296) as u32, b'\n');
 }
 
-fn told(rt: &HostRuntime, block: &mut [u8], i: usize) {
-    match arguments::number(rt, i, 100000, b"words [--next] [NUMBER]") {
-        Written::Is(v) => {
-            let output = show(Output::new(rt), block, v);
-            output.flushed(block);
-        }
-        Written::No => {}
+fn tell(rt: &HostRuntime, i: usize) {
+    if let Some(v) = arguments::number(rt, i, 100000, b"words [--next] [NUMBER]") {
+        let mut output = Output::new(rt);
+        show(&mut output, v);
+        output.flush();
     }
 }
 
 fn main(rt: HostRuntime) {
-    let mut block = [0u8; 64];
     let i: usize = if arguments::is(&rt, 1, b"--next") { 2 } else { 1 };
     if arguments::fit(&rt, i, 1, b"words [--next] [NUMBER]") {
-        told(&rt, &mut block, i);
+        tell(&rt, i);
     }
 }
 END
