@@ -23,9 +23,10 @@ def listed():
 
 
 def texts(crate, *ends):
-    """the crate's sources, without comments"""
+    """the crate's sources, without comments; what was built of them, in out and target, is none"""
+    built = tuple(f'{ROOT}/crates/{crate}/{folder}/' for folder in ('out', 'target'))
     for path in glob.glob(f'{ROOT}/crates/{crate}/**/*', recursive=True):
-        if path.endswith(ends):
+        if path.endswith(ends) and not path.startswith(built):
             mark = '--' if path.endswith('.antt') else '//'
             yield re.sub(rf'{mark} .*', '', open(path, encoding='utf-8').read())
 

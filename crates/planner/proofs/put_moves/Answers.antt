@@ -21,7 +21,8 @@ move_of-requires c =
 pub loop-k-preserved : goal.loop-k-preserved
 loop-k-preserved c =
     let so = counted_is c.args.plan.now c.requires.1 in (
-      plan_on c.loop-k.invariant.0 (omega (arith, so.0, c.loop-k-test.true)) (omega (arith, c.loop-k.invariant.1, so.2, c.loop-k-test.true, c.requires.0)) c.move_at.ensures.numbers c.move_of.ensures.lays.lays,
+      plan_on c.loop-k.invariant.0 (omega (arith, so.0, c.loop-k-test.true))
+          (omega (arith, c.loop-k.invariant.1, so.2, c.loop-k-test.true, c.requires.0)) c.move_at.ensures.numbers c.move_of.ensures.lays.lays,
       omega (arith, c.move_of.ensures.near, c.loop-k.invariant.1),
       c.move_of.ensures.lays.size ∙ c.loop-k.invariant.2,
       c.move_of.ensures.same_reference ∙ c.loop-k.invariant.3,

@@ -13,4 +13,7 @@ returns-then-eq c = record { follows = rw (name_dash c.args.name.now (same_text 
 
 pub returns : goal.returns
 unfolding text
-returns c = record { follows = rw (name_other c.args.name.now (λ is. other_text _ _ c.if-eq.ensures (is ∙ sym c.as_slice.ensures))) (follows_more c.put-2.ensures.follows (follows_more c.put-3.ensures.follows c.put-4.ensures.follows)) }
+returns c =
+    let other = name_other c.args.name.now (λ is. other_text _ _ c.if-eq.ensures (is ∙ sym c.as_slice.ensures)) in
+    let put = follows_more c.put-2.ensures.follows (follows_more c.put-3.ensures.follows c.put-4.ensures.follows) in
+    record { follows = rw other put }
