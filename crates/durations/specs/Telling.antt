@@ -50,7 +50,6 @@ pub record Ends (size : ℕ) (on : Bool) (o : Waiting) (total : ℕ) : Type 0 wh
   pub end : on ≡ true → 18446744073709551615 ≤ length pieces
 
 -- the last line: the grand total of all pieces that were told
-pub record TellsTotal (size : ℕ) (o : Waiting) (total : ℕ) (o' : Waiting) : Type 0 where
-  pub on : Bool
+pub record TellsTotal (size : ℕ) (on : Bool) (o : Waiting) (total : ℕ) (o' : Waiting) : Type 0 where
   pub ended : Ends size on o total
   pub line : Puts size o (line_of (told_total (grand_total ended.pieces))) o'

@@ -9,7 +9,7 @@ pub returns : goal.returns
 returns c =
     record {
       total =
-          let ended = c.requires.1 in
+          let ended = c.requires in
           let total = c.total_told.ensures.answer ∙ ap told_total ended.sum ∙ total_told (grand_total ended.pieces) in
-          record { on = c.requires.0; ended = ended; line = rw total at c.put_answer.ensures.line };
+          record { ended = ended; line = rw total at c.put_answer.ensures.line };
     }
