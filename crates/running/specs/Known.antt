@@ -11,6 +11,7 @@ pub record IsKnown (p : List ℕ) (k : ℕ) (x : Known) : Type 0 where
   pub line : x.line ≡ line_at p k
   pub next : (c n : ℕ) → x.line ≡ For c n → unwrap_or x.next 200 ≡ next_after p c k
   pub within : IfSome x.next (λ n. n < 200)
+  pub other : ((c n : ℕ) → x.line ≡ For c n → ⊥) → x.next ≡ None
 
 -- what stands behind the table
 abbrev pub unknown : Known
