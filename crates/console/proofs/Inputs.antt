@@ -1,13 +1,12 @@
 -- Calls one after the other: what they leave, and what waits of their replies.
 -- Assumes nothing.
 use mathlib.Core.Bool.{Bool, true, false, true≢false}
-use mathlib.Core.List.{List, [], ◌∷◌, ◌++◌, map-append, flatten}
+use mathlib.Core.List.{List, [], ◌∷◌, ◌++◌, append-nil, map-append, flatten}
 use mathlib.Core.Path.{◌≡◌, refl, sym, ap, ◌∙◌, subst}
-use Prim.Native.Nat.{ℕ, suc, ◌+◌, ◌≤◌, ◌<◌}
+use Prim.Native.Nat.{ℕ, zero, suc, ◌+◌, ◌≤◌, ◌<◌}
 use native.Mathlib.Omega.{arith}
-use Rattle.std.proofs.lemmas.List.{nil_from_length}
 use lib.ListN.{length, get_or, take, drop, take-append-drop, length-append}
-use lib.Seq.{take-nil, take-suc}
+use lib.Seq.{length-take-le, take-nil, take-suc}
 use borrow.Author.Tests.{ne_eqb, le-leb}
 use Rattle.controller.specs.Controller.{areas}
 use Rattle.controller.specs.Refusals.{Call, power_on, byte, tick, press}
@@ -161,16 +160,38 @@ module _ {size : ℕ} (input : List ℕ) (i : ℕ) {h h₁ : Held} {o o₁ : Wai
 
 -- ---- turns
 
+-- the first bytes of some are some
+some_there : (n : ℕ) (l : List ℕ) → n ≤ length l → (n ≡ 0 → ⊥) → 0 < length (take n l)
+some_there n l le ne = rw (length-take-le n l le) (above_zero n ne)
+  where
+    above_zero : (k : ℕ) → (k ≡ 0 → ⊥) → 0 < k
+    above_zero zero none = absurd (none refl)
+    above_zero (suc k) none = omega arith
+
 module _ {size : ℕ} where
   -- a read that gave no byte
-  pub nothing_heard : {input : List ℕ} {h : Held} {o : Waiting} → length input ≡ 0 → Hears size input h o false h o
-  nothing_heard {input} {h} {o} none = record {
+  pub nothing_heard : {n : ℕ} {input : List ℕ} {h : Held} {o : Waiting} → n ≡ 0 → Hears size n input h o false h o
+  nothing_heard {n} {input} {h} {o} none = record {
     fed = [];
-    left = input;
+    left = take n input;
     whole = refl;
     does = does_nothing h o;
     more = λ on. absurd (true≢false (sym on));
-    ends = λ _ _. nil_from_length input none;
+    ends = λ _ _. none;
+  }
+
+  -- and one that gave some
+  pub some_heard : {n : ℕ} {input : List ℕ} {h h' : Held} {o o' : Waiting} {on : Bool} → n ≤ length input → (n ≡ 0 → ⊥)
+      → Feeds size (take n input) h o on h' o' → Hears size n input h o on h' o'
+  some_heard {n} {input} le some f = record {
+    fed = f.fed;
+    left = f.left;
+    whole = f.whole;
+    does = f.does;
+    more = λ on.
+        let all : f.fed ≡ take n input = sym (append-nil f.fed) ∙ ap (λ l. f.fed ++ l) (sym (f.all on)) ∙ f.whole in
+        (f.all on, rw all (some_there n input le some));
+    ends = λ off opens. absurd (true≢false (sym opens ∙ f.ends off));
   }
 
   -- what was gathered has gone out

@@ -98,15 +98,15 @@ pub record Feeds (size : ℕ) (input : List ℕ) (h : Held) (o : Waiting) (more 
   pub ends : more ≡ false → o'.open ≡ false
   pub all : more ≡ true → left ≡ []
 
--- what the bytes that a read gave do: they are fed. There may be more only where all of them were, and there was one; there is no more only where there
--- was none, which is the end of the input, or where the output failed
-pub record Hears (size : ℕ) (input : List ℕ) (h : Held) (o : Waiting) (on : Bool) (h' : Held) (o' : Waiting) : Type 0 where
+-- what a read that gave n bytes, at the start of the buffer, does: they are fed. There may be more only where all of them were, and there was one; there
+-- is no more only where there was none, which is the end of the input, or where the output failed
+pub record Hears (size n : ℕ) (input : List ℕ) (h : Held) (o : Waiting) (on : Bool) (h' : Held) (o' : Waiting) : Type 0 where
   pub fed : List ℕ
   pub left : List ℕ
-  pub whole : fed ++ left ≡ input
+  pub whole : fed ++ left ≡ take n input
   pub does : Does size (calls_of fed) h o h' o'
   pub more : on ≡ true → (left ≡ []) × (0 < length fed)
-  pub ends : on ≡ false → o'.open ≡ true → input ≡ []
+  pub ends : on ≡ false → o'.open ≡ true → n ≡ 0
 
 -- what a turn does: what was gathered before has gone out, so that nothing waits of it, and then some bytes come; which, is in no contract, since what a
 -- read gives is in none. There may be more only where some came, and there is no more only where none came or the output failed

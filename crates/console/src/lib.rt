@@ -4,7 +4,7 @@
 // went out, is in none, since the library's have none.
 #![tactic(auto)]
 
-ghost use Rattle.std.specs.Prelude.{◌≡◌, [], ◌∷◌};
+ghost use Rattle.std.specs.Prelude.{◌≡◌, [], ◌∷◌, ◌≤◌, length};
 ghost use Rattle.controller.specs.Refusals.{tick, press, byte};
 ghost use Rattle.streams.specs.Gathering.{nothing_gathered};
 ghost use Rattle.console.specs.Inputs.{made, held_by, reply_of, Does, call_of, Takes, Feeds, Hears, Turns, Ends, begins};
@@ -128,15 +128,16 @@ impl Bench {
         true
     }
 
-    // What a read gave is fed to the box. No byte is the end of the input.
+    // What a read gave is fed to the box: the first n bytes of the buffer. None are the end of the input.
     // It stands apart from the read, whose bytes no contract names, so that its own can name them.
-    fn hear(&mut self, input: &[u8], output: &mut Output<BLOCK>) -> bool
-        ensures hears { Hears BLOCK input.now self.old output.old result self.new output.new }
+    fn hear(&mut self, input: &[u8], n: usize, output: &mut Output<BLOCK>) -> bool
+        requires { n ≤ length input.now }
+        ensures hears { Hears BLOCK n input.now self.old output.old result self.new output.new }
     {
-        if input.is_empty() {
+        if n == 0 {
             return false;
         }
-        self.feed(input, output)
+        self.feed(&input[..n], output)
     }
 
     // What is gathered goes out, input is read once, and what came is fed to the box. A read that failed is taken as the end of the input.
@@ -149,7 +150,7 @@ impl Bench {
             return false;
         }
         match input.read_once(&mut bytes) {
-            Ok(n) => self.hear(&bytes[..n], output),
+            Ok(n) => self.hear(&bytes, n, output),
             Err(_) => false,
         }
     }

@@ -1,8 +1,10 @@
 -- `console::Bench::hear` meets its contract: what a read gave is fed, and none is the end.
 -- Assumes nothing.
-use Rattle.console.proofs.Inputs.{nothing_heard}
-use borrow.Author.Rules.{rules}
+use Rattle.console.proofs.Inputs.{nothing_heard, some_heard}
 use Rattle.console.proofs.Bench.hear.Goals as goal
 
-pub returns-then-is_empty : goal.returns-then-is_empty
-returns-then-is_empty c = record { hears = nothing_heard (search rules) }
+pub returns-then-n-eq0 : goal.returns-then-n-eq0
+returns-then-n-eq0 c = record { hears = nothing_heard c.if-n-eq0.true }
+
+pub returns : goal.returns
+returns c = record { hears = some_heard c.requires c.if-n-eq0.false c.feed.ensures.feeds }
