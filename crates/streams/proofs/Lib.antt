@@ -1,3 +1,4 @@
 pub mod Gathering
 pub mod Following
+mod Behind
 pub mod Within

@@ -16,7 +16,7 @@ pub mod arguments;
 pub mod input;
 
 // Standard output, and the block in which what goes there is gathered.
-#[derive(Drop)]
+#[derive(Clone, Copy)]
 pub struct Output<const N: usize> {
     // what it writes by: the handle of `main`, which takes no bytes
     rt: HostRuntime,
@@ -28,14 +28,25 @@ pub struct Output<const N: usize> {
 }
 
 impl<const N: usize> Model for Output<N> {
-    ghost use Rattle.std.specs.Prelude.{take, ◌≤◌};
+    ghost use Rattle.std.specs.Prelude.{take, drop, replicate, length, ◌++◌, ◌-◌, ◌≤◌, ◌≡◌};
     ghost use Rattle.streams.specs.Gathering.{Waiting};
+    ghost use Rattle.streams.specs.Whole.{gives_back};
 
     ghost Value = { Waiting };
 
     ghost view = { λ o. record { waits = take o.used o.block; «open» = o.open } };
 
-    ghost invariant = { λ o. o.used ≤ N };
+    // what lies behind what is gathered is zero: so the view forgets nothing, and an output may be copied
+    ghost invariant = { λ o. (o.used ≤ N) × (length o.block ≡ N) × (drop o.used o.block ≡ replicate (N - o.used) 0) };
+
+    ghost inverse = { λ w. record {
+        rt = record { seal = tt };
+        block = w.waits ++ replicate (N - length w.waits) 0;
+        used = length w.waits;
+        «open» = w.open
+    } };
+
+    ghost inverse_ok = { λ o holds. gives_back o holds };
 }
 
 // ---- output
@@ -93,7 +104,11 @@ impl<const N: usize> Output<N> {
         if self.open {
             self.open = write_whole(&self.rt, self.gathered());
         }
-        self.used = 0;
+        if self.used > 0 {
+            let none = [0; N];
+            self.block = none;
+            self.used = 0;
+        }
     }
 
     // What is gathered goes to standard error: it is a message.
