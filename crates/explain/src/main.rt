@@ -29,7 +29,6 @@ fn main(rt: HostRuntime) {
     let Ok(n) = input.piece(&mut Output::<0>::new(&rt), &mut program) else {
         return;
     };
-    let mut output = Output::new(&rt);
-    telling::put_whole(&mut output, &program[..n], start, limit);
+    let mut output = telling::told_whole(&rt, &program[..n], start, limit);
     output.flush();
 }

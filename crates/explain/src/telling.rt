@@ -262,3 +262,13 @@ pub fn put_whole(output: &mut Told, p: &[u8], start: u64, limit: u64)
 {
     put_told(output, p, start, limit);
 }
+
+// The two lines of a program, in an output of their own.
+pub fn told_whole(rt: &HostRuntime, p: &[u8], start: u64, limit: u64) -> Told
+    ensures open { result.open ≡ true }
+    ensures whole { result.waits ≡ two_lines p.now limit (report p.now start limit) }
+{
+    let mut output = Output::new(rt);
+    put_whole(&mut output, p, start, limit);
+    output
+}
