@@ -12,6 +12,7 @@ use Rattle.reader.specs.Reading.{reading}
 use Rattle.channels.specs.declared.Channel.{Channel}
 use Rattle.channels.specs.declared.Beside.{Beside}
 use Rattle.channels.specs.declared.Answer.{Answer}
+use Rattle.channels.specs.declared.Held.{Held}
 use Rattle.channels.specs.Totals.{unused, at_start, beside_after, map_from, all_from, forward_one}
 
 -- "051 for a 12-byte log it accepts"
@@ -85,3 +86,7 @@ beside_of (passed a) = passed a.1
 abbrev pub records_of : List Channel → Res (List Channel × Beside) → List Channel
 records_of cs (refused e) = cs
 records_of cs (passed a) = a.0
+
+-- both, of records held by value
+abbrev pub held_of : List Channel → Beside → Res (List Channel × Beside) → Held
+held_of cs b r = record { channels = records_of cs r; answer = answer_of b r }

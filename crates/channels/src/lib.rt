@@ -10,7 +10,7 @@ ghost use Rattle.reader.specs.Layout.{size_of};
 ghost use Rattle.reader.specs.Reading.{told_of};
 ghost use Rattle.channels.specs.Numbers.{number_of, distinct, Read as by_reader};
 ghost use Rattle.channels.specs.Totals.{map_from};
-ghost use Rattle.channels.specs.Bringing.{log_for, are_totals, bringing, beside_of, records_of};
+ghost use Rattle.channels.specs.Bringing.{log_for, are_totals, bringing, beside_of, records_of, held_of};
 ghost use Rattle.channels.specs.Walk.{first_of, joining, beside_told, lost_told, Counted, sum_with, moved_of, next_of};
 
 use formats::Numbered;
@@ -59,9 +59,16 @@ pub struct Gain {
 
 // What a log brings the channels, and what is kept beside their records then.
 #[derive(Clone, Copy)]
-struct Counts {
-    gains: [Gain; 32],
-    beside: Beside,
+pub struct Counts {
+    pub gains: [Gain; 32],
+    pub beside: Beside,
+}
+
+// The 32 records by value, and the answer.
+#[derive(Clone, Copy)]
+pub struct Held {
+    pub channels: [Channel; 32],
+    pub answer: Answer,
 }
 
 // Why a log is refused.
@@ -155,7 +162,7 @@ fn beside_after(told: Told, beside: Beside) -> Option<Beside>
 }
 
 // What a log brings n channel records, but for a total of theirs that would pass the end; or its refusal.
-fn count(n: usize, log: &[u8], beside: Beside) -> Result<Counts, Refusal>
+pub fn count(n: usize, log: &[u8], beside: Beside) -> Result<Counts, Refusal>
     ensures counted { Counted n log.now beside (res_of number_of result) }
 {
     let told = read_for(n, log)?;
@@ -172,7 +179,7 @@ fn count(n: usize, log: &[u8], beside: Beside) -> Result<Counts, Refusal>
 
 // The record of a channel, brought forward, where no total passes the end.
 #[tactic(auto, unfolding(crate::specs::Bringing::are_totals))]
-fn forward(channel: Channel, gain: Gain) -> Option<Channel>
+pub fn forward(channel: Channel, gain: Gain) -> Option<Channel>
     ensures moved { result ≡ moved_of channel gain }
 {
     Some(Channel {
@@ -226,4 +233,21 @@ pub fn bring_forward(
     }
     bring(channels, &counts.gains);
     Ok(counts.beside)
+}
+
+// The same, of 32 records by value.
+pub fn brought(mut channels: [Channel; 32], log: &[u8], beside: Beside) -> Held
+    ensures held { result ≡ held_of channels beside (bringing channels log.now beside) }
+{
+    let answer = match bring_forward(&mut channels, log, beside) {
+        Ok(next) => Answer {
+            refusal: 0,
+            beside: next,
+        },
+        Err(e) => Answer {
+            refusal: e.number(),
+            beside,
+        },
+    };
+    Held { channels, answer }
 }
