@@ -367,11 +367,15 @@ def clauses_of(head):
         yield head[start.end():at - 1]
 
 
+# a function with a contract: its head goes on over lines, to a line that is `{` alone; one that ends its first line with `{` has none
+FUNCTION = re.compile(r'^ *(pub )?(?:extern "C" )?fn (\w+)((?:(?! *\{$)(?:[^\n]*[^\n{]|[^\n]*\b(?:requires|ensures)\b[^\n]*|)\n)+) *\{$', re.M)
+
+
 def contracts(reader):
     """the same of the contracts of the functions that are called from outside; those of a program are all of its own"""
     for path in CALLED + PROGRAMS:
         file, text = reader.file(path), read(path)
-        for one in re.finditer(r'^ *(pub )?(?:extern "C" )?fn (\w+)(.*?)^ *\{$', text, re.M | re.S):
+        for one in FUNCTION.finditer(text):
             public, name, head = one.groups()
             said = list(clauses_of(head))
             if said and (public or path in PROGRAMS):
