@@ -141,7 +141,13 @@ class Sources:
     def types_in(self, path, text):
         """the types of the sources that some lines of a source name"""
         crate, brought = path.split('/')[1], types_brought(read(path))
-        found_ = [self.named(*((from_, name) if from_ else brought.get(name, (crate, name)))) for from_, name in re.findall(r'(?:(\w+)::)?\b([A-Z]\w+)', text)]
+
+        def place(from_, name):
+            if not from_:
+                return brought.get(name, (crate, name))
+            return (crate if os.path.exists(os.path.join(ROOT, f'crates/{crate}/src/{from_}.rt')) else from_), name  # a module of its own, or a crate
+
+        found_ = [self.named(*place(from_, name)) for from_, name in re.findall(r'(?:(\w+)::)?\b([A-Z]\w+)', text)]
         return [used for used in found_ if used]
 
     def seen(self, what):
