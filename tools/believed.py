@@ -6,7 +6,9 @@ Usage: python3 tools/believed.py [--check | --print | --laws | --why NAME]
 The theorems are what is public in the modules that the head of docs/PROMISES.md lists, but for definitions. Of each its statement counts,
 with the parameters of the modules that it stands in. So do the contracts of what is called from outside: of the public functions of
 `calls` and `nizhalepu`, and of the programs `bench`, `durations`, `explain` and `plan`. Every name used there is followed to its definition in the repository, and from the
-definition's own text on to the names that it uses; a struct or an enum of the sources counts by its lines there. It stops at the
+definition's own text on to the names that it uses; a struct, an enum or a name for a type counts by its lines in the sources. What is said of a value whose
+type has an `impl Model` is said of its view: a type that has one is followed from each contract whose function takes, gives or belongs to it, and
+what its members `Value`, `view` and `invariant` use is followed too; these count as lines of the type. It stops at the
 toolchain's library and at what STOPS lists, with the reason, which the page shows too: of such a definition only its signature is followed.
 What a computed theorem says of each row of a table stands in the row: the modules that ROWS lists count as statements.
 
@@ -79,10 +81,10 @@ def found(pattern):
 # ---- types of the sources
 
 def types_of(path):
-    """name: its lines, of the structs and enums in a source"""
+    """name: its lines, of the structs, enums and names for types in a source"""
     types, inside = {}, None
     for line in read(path).split('\n'):
-        head = re.match(r'(?:pub )?(?:struct|enum) (\w+)', line)
+        head = re.match(r'(?:pub )?(?:struct|enum|type) (\w+)', line)
         inside = head.group(1) if head else inside
         text = re.sub(r'//.*', '', line).rstrip()
         if inside and text:
@@ -92,27 +94,65 @@ def types_of(path):
     return types
 
 
+SEEN_BY = ('Value', 'view', 'invariant')
+
+
+def models_of(path):
+    """name: the lines of what a value of the type is seen by, of the types in a source with an `impl Model`"""
+    models = {}
+    for name, body in re.findall(r'^impl\b[^\n]*\bModel for (\w+)[^\n]*\{\n(.*?)^\}', read(path), re.M | re.S):
+        lines = [text for text in (re.sub(r'//.*', '', line).rstrip() for line in body.split('\n')) if text]
+        for group in ghosts_in(lines):
+            if re.match(rf' *ghost (?:{"|".join(SEEN_BY)}) =', group[0]):
+                models.setdefault(name, []).extend(group)
+    return models
+
+
+def ghosts_in(lines):
+    """the lines of each member: it ends where a line ends with `;`"""
+    group = []
+    for line in lines:
+        group.append(line)
+        if line.endswith(';'):
+            yield group
+            group = []
+
+
 class Sources:
     """the structs and enums of every crate"""
 
     def __init__(self):
-        self.lines, self.by_crate = {}, {}
+        self.lines, self.by_crate, self.models = {}, {}, {}
         for path in found('crates/*/src/**/*.rt'):
-            crate = path.split('/')[1]
+            crate, models = path.split('/')[1], models_of(path)
             for name, lines in types_of(path).items():
                 self.lines[Name(path, name)] = lines
                 self.by_crate[crate, name] = Name(path, name)
+                if name in models:
+                    self.models[Name(path, name)] = models[name]
 
     def named(self, crate, name):
         return self.by_crate.get((crate, name))
 
     def uses(self, what):
         """the types that a type's own lines name"""
-        crate, brought = what.path.split('/')[1], types_brought(read(what.path))
-        for from_, name in re.findall(r'(?:(\w+)::)?\b([A-Z]\w+)', ' '.join(self.lines[what])):
-            used = self.named(*((from_, name) if from_ else brought.get(name, (crate, name))))
-            if used and used != what:
-                yield used
+        return [used for used in self.types_in(what.path, ' '.join(self.lines[what])) if used != what]
+
+    def types_in(self, path, text):
+        """the types of the sources that some lines of a source name"""
+        crate, brought = path.split('/')[1], types_brought(read(path))
+
+        def place(from_, name):
+            if not from_:
+                return brought.get(name, (crate, name))
+            return (crate if os.path.exists(os.path.join(ROOT, f'crates/{crate}/src/{from_}.rt')) else from_), name  # a module of its own, or a crate
+
+        found_ = [self.named(*place(from_, name)) for from_, name in re.findall(r'(?:(\w+)::)?\b([A-Z]\w+)', text)]
+        return [used for used in found_ if used]
+
+    def seen(self, what):
+        """whether a value of the type is seen by a view, of its own or of the type that it is another name for"""
+        return what in self.models or any(self.seen(used) for used in self.uses(what) if re.match(r'(?:pub )?type ', self.lines[what][0]))
 
 
 # ---- definitions
@@ -238,7 +278,8 @@ class Reader:
     def uses(self, what):
         """the names in a definition's own text"""
         if what in self.sources.lines:
-            return [] if what in self.stops else list(self.sources.uses(what))
+            model = [(0, re.sub(r'^ *ghost \w+ = ', '', line)) for line in self.sources.models.get(what, [])]
+            return [] if what in self.stops else self.sources.uses(what) + self.used(self.file(what.path), model)
         file = self.file(what.path)
         one = file.declared[what.name]
         if what in self.stops and one.kind in ('record', 'data'):
@@ -274,7 +315,7 @@ class Reader:
     def lines(self, what):
         """how many lines it has"""
         if what in self.sources.lines:
-            return len(self.sources.lines[what])
+            return len(self.sources.lines[what]) + len(self.sources.models.get(what, []))
         one = self.file(what.path).declared[what.name]
         return len(one.statement) + sum(map(len, one.clauses))
 
@@ -332,15 +373,29 @@ def clauses_of(head):
         yield head[start.end():at - 1]
 
 
+# a function with a contract: its head goes on over lines, to a line that is `{` alone; one that ends its first line with `{` has none
+FUNCTION = re.compile(r'^ *(pub )?(?:extern "C" )?fn (\w+)((?:(?! *\{$)(?:[^\n]*[^\n{]|[^\n]*\b(?:requires|ensures)\b[^\n]*|)\n)+) *\{$', re.M)
+
+
 def contracts(reader):
     """the same of the contracts of the functions that are called from outside; those of a program are all of its own"""
     for path in CALLED + PROGRAMS:
         file, text = reader.file(path), read(path)
-        for public, name, head in re.findall(r'^ *(pub )?(?:extern "C" )?fn (\w+)(.*?)^ *\{$', text, re.M | re.S):
+        for one in FUNCTION.finditer(text):
+            public, name, head = one.groups()
             said = list(clauses_of(head))
             if said and (public or path in PROGRAMS):
-                lines = [(0, line) for one in said for line in one.strip().split('\n')]
-                yield Name(path, name), len(lines), {}, reader.used(file, lines)
+                lines = [(0, line) for clause in said for line in clause.strip().split('\n')]
+                yield Name(path, name), len(lines), {}, reader.used(file, lines) + seen_in(reader, path, text, one)
+
+
+def seen_in(reader, path, text, function):
+    """the types with an `impl Model` that a function takes, gives or belongs to"""
+    taken = re.split(r'^ *(?:requires|ensures)\b', function.group(3), maxsplit=1, flags=re.M)[0]
+    around = re.findall(r'^(?:impl\b[^\n]*\{|\})$', text[:function.start()], re.M)
+    if re.search(r'\b[sS]elf\b', taken) and around and around[-1] != '}':
+        taken += ' ' + around[-1]
+    return [what for what in reader.sources.types_in(path, taken) if reader.sources.seen(what)]
 
 
 def reached(reader, stated, before):
