@@ -5,7 +5,7 @@ Usage: python3 tools/believed.py [--check | --print | --laws | --why NAME]
 
 The theorems are what is public in the modules that the head of docs/PROMISES.md lists, but for definitions. Of each its statement counts,
 with the parameters of the modules that it stands in. So do the contracts of what is called from outside: of the public functions of
-`calls` and `nizhalepu`, and of the programs `bench`, `durations`, `explain` and `plan`. Every name used there is followed to its definition in the repository, and from the
+`calls` and `nizhalepu`, of the functions of lower crates that REPORTS lists, which answer a `Refusal` of their crate, and of the programs `bench`, `durations`, `explain` and `plan`. Every name used there is followed to its definition in the repository, and from the
 definition's own text on to the names that it uses; a struct, an enum or a name for a type counts by its lines in the sources. What is said of a value whose
 type has an `impl Model` is said of its view: a type that has one is followed from each contract whose function takes, gives or belongs to it, and
 what its members `Value`, `view` and `invariant` use is followed too; these count as lines of the type. It stops at the
@@ -61,6 +61,9 @@ ROWS = tuple(f'crates/demands/specs/{name}.antt' for name in
              ('Points', 'CallsTable', 'WireTable', 'VariablesTable', 'RunningTable', 'LogTable', 'Tables', 'RefusedCalls',
               'RunScripts', 'Scripts', 'TotalScripts'))
 CALLED = ('crates/calls/src/lib.rt', 'crates/nizhalepu/src/lib.rt')
+# what a caller in Rust calls of the crates under these, which answer a refusal by name: its number is in their contracts
+REPORTS = {'crates/reader/src/lib.rt': ('read',), 'crates/duration/src/lib.rt': ('report',), 'crates/explanation/src/lib.rt': ('report',),
+           'crates/planner/src/lib.rt': ('write',), 'crates/channels/src/lib.rt': ('bring_forward',)}
 # the programs whose contracts say what they tell; that of `bench` stands in `console`
 PROGRAMS = ('crates/console/src/lib.rt', 'crates/durations/src/main.rt', 'crates/explain/src/telling.rt', 'crates/plan/src/telling.rt', 'crates/plan/src/main.rt',
             'crates/totals/src/telling.rt', 'crates/totals/src/main.rt')
@@ -379,12 +382,12 @@ FUNCTION = re.compile(r'^ *(pub )?(?:extern "C" )?fn (\w+)((?:(?! *\{$)(?:[^\n]*
 
 def contracts(reader):
     """the same of the contracts of the functions that are called from outside; those of a program are all of its own"""
-    for path in CALLED + PROGRAMS:
+    for path in (*CALLED, *REPORTS, *PROGRAMS):
         file, text = reader.file(path), read(path)
         for one in FUNCTION.finditer(text):
             public, name, head = one.groups()
             said = list(clauses_of(head))
-            if said and (public or path in PROGRAMS):
+            if said and (public and name in REPORTS.get(path, (name,)) or path in PROGRAMS):
                 lines = [(0, line) for clause in said for line in clause.strip().split('\n')]
                 yield Name(path, name), len(lines), {}, reader.used(file, lines) + seen_in(reader, path, text, one)
 
@@ -424,8 +427,8 @@ def groups(reader):
             ('Why a program stops', 'The theorems of `explanation`, and those of `demands` and `nizhalepu` over it; what they add.', of(OF_STOPS)),
             ('A plan as a program', 'The theorems of `planner` and `plantext`, and those of `demands` over them; what they add.', of(OF_PLANS)),
             ('Switching totals', 'The theorems of `demands` and `channels` over logs brought forward one after the other; what they add.', of(OF_TOTALS)),
-            ('The code', 'The theorems of `calls` and `nizhalepu`, and the contracts of what is called from outside, the library and the programs '
-             '`bench`, `durations`, `explain`, `plan` and `totals`; what they add.',
+            ('The code', 'The theorems of `calls` and `nizhalepu`, and the contracts of what is called from outside: the library, the five functions that answer '
+             'a refusal of their crate by name, and the programs `bench`, `durations`, `explain`, `plan` and `totals`; what they add.',
              itertools.chain(of(OF_THE_CODE), contracts(reader))),
             ('Computed points', 'What `demands/Worked`, `demands/Applied` and `demands/AppliedTotals` add: the languages that the points, tables and histories are written in. These '
              'themselves are what is stated.',
