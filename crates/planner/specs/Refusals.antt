@@ -1,4 +1,3 @@
--- Nobody has to believe this: it says how the code goes, and no theorem speaks of it.
 -- The refusals by their numbers. 02, item 10: "Refusals, in order, nothing written: 030, 070 no or too many moves, 071 a time outside its range."
 use Rattle.std.specs.Prelude.{ℕ, ◌≡◌, refl, eqb}
 use Rattle.std.specs.Prelude.{if◌then◌else◌}
