@@ -3,6 +3,7 @@ pub mod Fields
 pub mod Walking
 pub mod Closing
 pub mod LineEnds
+pub mod Holding
 pub mod Storing
 pub mod Judging
 pub mod Exactly

@@ -9,7 +9,7 @@ ghost use Rattle.plantext.specs.Text.{hex_value};
 ghost use Rattle.plantext.specs.Reading.{begin, base, behind, wrong, before, missing, grown, value_after, character, stored, field_end};
 ghost use Rattle.plantext.specs.Reading.{closed, hash, letter, line_end, resolved, step, fed, ended};
 
-use arrayvec::ArrayVec;
+pub mod numbers;
 
 // How many numbers there is room for: those of 17 moves. A plan has at most 16.
 pub const ROOM: usize = 68;
@@ -59,10 +59,10 @@ enum Place {
 }
 
 // What was read so far.
-#[derive(Drop)]
+#[derive(Clone, Copy)]
 pub struct Reader {
     // of each move its word, settling, word, reading, as far as there is room
-    pub numbers: ArrayVec<u32, ROOM>,
+    pub numbers: numbers::Numbers,
     // the present line, from 1 on, or that of the fault
     pub line: u64,
     pub fault: Option<Fault>,
@@ -182,7 +182,7 @@ pub fn begin() -> Reader
     ensures begins { result ≡ begin }
 {
     Reader {
-        numbers: ArrayVec::new(),
+        numbers: numbers::Numbers::new(),
         line: 1,
         fault: None,
         place: Place::before(Kind::MoveWord),
