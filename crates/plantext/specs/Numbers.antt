@@ -1,5 +1,4 @@
--- How a reader holds the numbers that were read. Nobody has to believe this: the theorems speak of the items alone, and
--- `plantext::Numbers::as_slice` hands these out.
+-- How a reader holds the numbers that were read: the theorems speak of the items alone, and `plantext::Numbers::as_slice` hands these out.
 use Rattle.std.specs.Prelude.{ℕ, ◌-◌, ◌≤◌, ◌≡◌, List, ◌++◌, length, take, drop, replicate}
 use mathlib.Core.Path.{sym, ap, ◌∙◌}
 use Rattle.std.proofs.lemmas.List.{take-append-drop, length-take-le}
