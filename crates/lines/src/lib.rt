@@ -6,7 +6,7 @@ ghost use Rattle.std.specs.Prelude.{◌≡◌, ◌&&◌, ◌+◌, ◌*◌, ◌�
 ghost use Rattle.std.specs.Option.{unwrap_or};
 ghost use Rattle.std.specs.Prelude.{if◌then◌else◌};
 ghost use Rattle.lines.specs.declared.Line.TheVariants.{State, For, Next, Bad};
-ghost use Rattle.lines.specs.Line.{end_mark, is_counter, is_end, is_bad, for_counter_in, counter_in, read_line, bytes_of};
+ghost use Rattle.lines.specs.Line.{end_mark, is_counter, is_end, is_bad, for_counter, for_counter_in, counter_of, counter_in, read_line, bytes_of};
 ghost use Rattle.lines.specs.Program.{IsProgram, line_at, put_line, is_next_of, next_after};
 ghost use Rattle.lines.specs.Loops.{end_line};
 
@@ -115,6 +115,7 @@ fn is_end(l: Line) -> bool
 // The counter of a For.
 pub fn for_counter(l: Line) -> Option<u8>
     ensures counter { result ≡ for_counter_in l }
+    ensures number { unwrap_or result 0 ≡ for_counter l }
 {
     match l {
         Line::For { counter, .. } => Some(counter),
@@ -125,6 +126,7 @@ pub fn for_counter(l: Line) -> Option<u8>
 // The counter of a For or a Next.
 pub fn counter_of(l: Line) -> Option<u8>
     ensures counter { result ≡ counter_in l }
+    ensures number { unwrap_or result 0 ≡ counter_of l }
 {
     match l {
         Line::For { counter, .. } => Some(counter),
