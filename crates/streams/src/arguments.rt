@@ -77,10 +77,11 @@ pub fn fit(rt: &HostRuntime, from: usize, most: usize, usage: &[u8]) -> bool {
 
 // Argument i as a number in decimal, or another number where there is no such argument. None is one that is no number, which is told.
 pub fn number(rt: &HostRuntime, i: usize, otherwise: u64, usage: &[u8]) -> Option<u64> {
-    let mut digits = [0u8; LONGEST];
-    let Some(n) = word(rt, i, &mut digits) else {
+    if !is_given(rt, i) {
         return Some(otherwise);
-    };
+    }
+    let mut digits = [0u8; LONGEST];
+    let n = word(rt, i, &mut digits).unwrap_or(0);
     let written = formats::decimal_in(&digits[..n]);
     if written.is_none() {
         wrong(rt, b"no number: '", i, usage);
