@@ -23,18 +23,16 @@ const MORE: u64 = crate::MOST_TICKS + 1;
 impl Sum {
     // A line behind it that begins no loop.
     #[tactic(auto, unfolding(crate::specs::Summing::joined, crate::specs::Report::capped_at))]
-    fn with_line(self, line: Line) -> Sum
+    fn with_line(mut self, line: Line) -> Sum
         requires { self.ticks ≤ more_ticks }
         ensures sum { result ≡ joined self (plain_sum line) }
     {
         match line {
-            Line::State { outputs: _, time } => Sum {
-                ticks: (self.ticks + time as u64).min(MORE),
-                ..self
-            },
-            Line::Bad => Sum { bad: true, ..self },
-            Line::For { .. } | Line::Next { .. } => self,
+            Line::State { outputs: _, time } => self.ticks = (self.ticks + time as u64).min(MORE),
+            Line::Bad => self.bad = true,
+            Line::For { .. } | Line::Next { .. } => {}
         }
+        self
     }
 
     // Another sum behind it.
