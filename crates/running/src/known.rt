@@ -35,8 +35,9 @@ pub fn known_of(p: &[u8]) -> [Known; 200]
     requires { IsProgram p.now }
     ensures known { Tabled p.now result }
 {
+    // all zeros, which are cheap to lay
     let mut table = [Known {
-        line: Line::Bad,
+        line: lines::end_mark(),
         next: None,
     }; 200];
     for k in 0..200 {
