@@ -18,10 +18,9 @@ module _ {n used k : ℕ} (block new : List ℕ) (zeros : (used ≤ n) × (lengt
   pub behind_more : (used + k ≤ n) × (length (put_mid used (used + k - used) block new) ≡ n)
       × (drop (used + k) (put_mid used (used + k - used) block new) ≡ replicate (n - (used + k)) 0)
   behind_more =
-      let less : n - used - k ≡ n - (used + k) = omega arith in
-      (
+      let less : n - used - k ≡ n - (used + k) = omega arith in (
         within,
         same_len_mid used (used + k - used) block new same ∙ zeros.1,
         drop-put_mid used (used + k - used) block new (used + k) (omega arith) (omega (arith, zeros.0, zeros.1)) (omega (arith, long))
-        ∙ sym (drop-drop k used block) ∙ ap (drop k) zeros.2 ∙ drop-replicate k (n - used) 0 ∙ ap (λ m. replicate m 0) less,
+            ∙ sym (drop-drop k used block) ∙ ap (drop k) zeros.2 ∙ drop-replicate k (n - used) 0 ∙ ap (λ m. replicate m 0) less,
       )

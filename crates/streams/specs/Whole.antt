@@ -19,6 +19,6 @@ module _ {n : ℕ} (o : Inside n) (holds : (o.used ≤ n) × (length o.block ≡
   -- the view gives the fields back
   pub gives_back : record o {
     block = take o.used o.block ++ replicate (n - length (take o.used o.block)) 0;
-    used = length (take o.used o.block)
+    used = length (take o.used o.block);
   } ≡ o
   gives_back = ap₂ (λ b u. record o { block = b; used = u }) block_is used_is

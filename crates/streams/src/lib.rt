@@ -40,10 +40,10 @@ impl<const N: usize> Model for Output<N> {
     ghost invariant = { λ o. (o.used ≤ N) × (length o.block ≡ N) × (drop o.used o.block ≡ replicate (N - o.used) 0) };
 
     ghost inverse = { λ w. record {
-        rt = record { seal = tt };
-        block = w.waits ++ replicate (N - length w.waits) 0;
-        used = length w.waits;
-        «open» = w.open
+      rt = record { seal = tt };
+      block = w.waits ++ replicate (N - length w.waits) 0;
+      used = length w.waits;
+      «open» = w.open;
     } };
 
     ghost inverse_ok = { λ o holds. gives_back o holds };
